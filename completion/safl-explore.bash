@@ -10,7 +10,7 @@ _safl_explore() {
         --calls | --known | --plot | --source | --safl) compopt -o filenames 2>/dev/null; mapfile -t COMPREPLY < <(compgen -f -- "$word"); return ;;
     esac
     if [[ $word == -* ]]; then
-        mapfile -t COMPREPLY < <(compgen -W "--calls --cycles --points --seconds --jobs --scheduler --keep --known --luts --place --device --dsp --seed --seeds --out --plot --inline --inline-below --source --safl --version --help" -- "$word")
+        mapfile -t COMPREPLY < <(compgen -W "--calls --cycles --points --seconds --jobs --scheduler --keep --known --luts --place --front --device --dsp --seed --seeds --out --plot --inline --inline-below --source --safl --version --help" -- "$word")
         return
     fi
     compopt -o filenames 2>/dev/null

@@ -12,7 +12,7 @@ from dataclasses import dataclass, field
 from files import TOP
 from program import PROGRAM
 
-SECONDS = 120  # the most that a run may take
+SECONDS = 600  # the most that a run may take; on a busy machine Verilator takes minutes
 MARK = "TOOL_RUN"  # all that a run starts has this variable, with the run's folder
 TRIES, PAUSE = 500, 0.01
 SYSTEM_PYTHON = "/usr/bin/python3"
@@ -170,7 +170,8 @@ def ended(run, inputs):
         before = found(folder)
         status, out, err = outputs_of(run, folder)
         here = still_living(folder)
-        kill(folder)
+        if here:
+            kill(folder)
         after = found(folder)
         changed = {name: after.get(name) for name in before.keys() | after.keys() if before.get(name) != after.get(name)}
         return Ended(status, out, err, changed, os.listdir(f"{folder}/{TEMPORARY}"), here)

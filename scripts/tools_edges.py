@@ -1,14 +1,18 @@
 #!/usr/bin/env python3
 """Runs the programs of tools/ where names, files, outputs, signals and the system are out of the ordinary:
 
-    tools_edges.py [--jobs J] [PART..]
+    tools_edges.py [--jobs J] [--tool TOOL] [--modules N] [PART..]
 
 Each run has to end with the status and the line that are wanted. It leaves no temporary file, no process, no file that is half
-written, and no input that is changed; what stands in a name is never run. For a small call of each program each system call is
-refused in turn (scripts/refuse_calls.c), and the run may only end with a status that says so. Each status has to be in the
-program's manual page. A program of tools/ that has no calls here is a fault. PART names some parts, as signals. The program is
-crates/safl/out/safl, or SAFL names it. The last line says how many runs there were, and what is SKIPPED.
+written, and no input that is changed; what stands in a name is never run. For a small call of each program system calls are
+refused in turn (scripts/refuse_calls.c), and the run may only end with a status that says so; of those by which Python loads a
+module only each tenth, or each N-th, as they are alike. Each status has to be in the
+program's manual page. A program of tools/ that has no calls here is a fault. PART names some parts, as signals, and TOOL one
+program, as safl-wrap. The program `safl` is crates/safl/out/safl, or SAFL names it. Runs are made side by side. The last line says
+how many there were, how much time they took by the clock and of processors, and what is SKIPPED.
 """
+import argparse
+import compileall
 import concurrent.futures
 import glob
 import itertools
@@ -33,11 +37,12 @@ REFUSED = (0, CANNOT_READ, CANNOT_WRITE, NO_MEMORY, NOT_THERE, TOOL_FAILED, FAUL
 LIBRARIES = ("jinja2", "matplotlib")
 EXPLAINS = "safl-explain"  # its first line is that of `safl`, and more lines follow
 OPTIONAL = ("dot",)  # without it a part is left out
-SOURCE = "fun f(x:8):8 = x + 1\nfun main(a:8):8 = f(a) + f(a + 1)\n"
+SOURCE = "fun f(x:8):8 = x + 1\nfun main(a:8):8 = f(a)\n"
 TOP_MODULE = "module top (input clk, output reg o); always @(posedge clk) o <= ~o; endmodule\n"
 INPUTS = {"p.safl": SOURCE, "calls": "5\n", "top.v": TOP_MODULE, "pins": "set_io clk 21\nset_io o 22\n"}
 LIMITS = {"p.safl": 1 << 20, "calls": 1 << 20, "p.v": 1 << 26}
 OLD = "an old file\n"
+OF_KNOWN = {"known.json": "{}\n"}  # a file that is read before it is written
 NETLIST = '{"modules": {"safl": {"ports": {}, "cells": {"lut": {"type": "SB_LUT4"}}}}}'
 SYNTHESISED = f"#!/bin/sh\necho '{NETLIST}' >module.json\n"  # in place of Yosys, which takes long
 LONG = "takes long"
@@ -69,9 +74,12 @@ class Call:
         return f'{begin}"$P" "$T" {" ".join(words)}'
 
     def run(self, line=None, files=(), given=(), sent=None):
-        """A run of a line, which is that of the call if none is given."""
-        files = {**({"bin/yosys": self.more} if self.more == SYNTHESISED else {}), **dict(files)}
-        return Run(self.tool, line or self.line(), files, dict(given), sent)
+        """A run of a line, which is that of the call if none is given. What is in place of Yosys is there twice, as one may not be found."""
+        files, given = dict(files), dict(given)
+        if self.more == SYNTHESISED:
+            files = {"bin/yosys": self.more, "again/yosys": self.more, **files}
+            given = {"PATH": f"@/bin:@/again:{os.environ.get('PATH', os.defpath)}", **given}
+        return Run(self.tool, line or self.line(), files, given, sent)
 
 
 # The calls of each program. The first is the small one, of which each system call is refused.
@@ -130,7 +138,7 @@ NO_PROGRAM = "#!/nowhere\n"
 ASKED = f"#!/bin/sh\n: >{HERE}/asked\nexit 1\n"
 # A program that ends by no signal but SIGKILL, nor does the one that it starts.
 HANGS = f"#!/bin/sh\ntrap '' HUP INT TERM QUIT\nsleep 1000 &\n: >{HERE}/began\nwait\nsleep 1000\n"
-FEW = 9  # how many calls of `safl` go well before memory runs out
+FEW = 7  # how many calls of `safl` go well before memory runs out
 RUNS_OUT = f"""#!/bin/sh
 echo >>{HERE}/asked
 if [ "$(wc -l <{HERE}/asked)" -gt {FEW} ]; then echo out of memory >&2; exit {NO_MEMORY}; fi
@@ -142,7 +150,6 @@ CLOSINGS += [">/dev/full", "2>/dev/full", ">/dev/full 2>/dev/full", ">&3 3>&-"]
 NO_READER = "mkfifo q; exec 4<>q 3>q 4<&-; rm q; "  # descriptor 3 is a pipe without a reader
 SIGNALS = (signal.SIGINT, signal.SIGTERM, signal.SIGHUP, signal.SIGQUIT, HANG_UP)
 BEGINNINGS = {".svg": b"<", ".png": b"\x89PNG", ".pdf": b"%PDF"}
-BATCH = 64
 
 
 @dataclass
@@ -156,6 +163,7 @@ class Trial:
     out: bytes = None
     files: dict = None
     is_silent: bool = False  # nothing can be told
+    refuses: Call = None  # a system call of this call is refused
 
 
 def renamed(names):
@@ -245,7 +253,7 @@ def links(kit, call):
 
 def old(kit, call):
     """A file stays as it was if `safl` or the file system fails."""
-    files = {name: OLD for name in call.names(">") if name != "d"}
+    files = {name: OF_KNOWN.get(name, OLD) for name in call.names(">") if name != "d"}
     if not files:
         return
     if "p.safl" in call.names("<"):
@@ -365,8 +373,9 @@ def full(kit, call):
         yield Trial(call.run(begin.format("4k") + fill + here), CANNOT_WRITE)
         yield Trial(call.run(begin.format("12k") + here))
     for target in call.names(">"):
-        first = f"echo old >small/{target}; " * (target != "d")
-        end = f'; s=$?; [ "$(cat small/{target})" = old ] || s=99; exit $s' * (target != "d")
+        before = OF_KNOWN.get(target, OLD).strip()
+        first = f"echo '{before}' >small/{target}; " * (target != "d")
+        end = f'; s=$?; [ "$(cat small/{target})" = "{before}" ] || s=99; exit $s' * (target != "d")
         line = begin.format("8k") + first + fill + call.line(renamed({target: f"small/{target}"}), "") + end
         yield Trial(call.run(line), CANNOT_WRITE, f"cannot write small/{target}.*")
 
@@ -379,9 +388,25 @@ def sooner(kit, call):
         yield Trial(run, NO_MEMORY, ".*out of memory: what is above was found until then")
 
 
+def refused(kit, call):
+    """Refuses each system call of the small call of a program, one in each run; of those that load modules, some."""
+    if call not in kit.small:
+        return
+    if not kit.shim:
+        kit.skip("refused system calls: no C compiler")
+        return
+    kinds = kit.kinds(call)
+    if not kinds:
+        kit.skip(f"refused system calls of {call.tool}")
+    for number in (number for number, kind in enumerate(kinds, 1) if kind == "c" or number % kit.step == 0):
+        yield Trial(call.run(call.line(begin=kit.refusing(number))), refuses=call)
+
+
 PARTS = {
     part.__name__: part
-    for part in (closed, names, pipes, kept, links, old, early, pictures, appended, long, gone, missing, killed, signals, full, sooner)
+    for part in (
+        closed, names, pipes, kept, links, old, early, pictures, appended, long, gone, missing, killed, signals, full, sooner, refused,
+    )
 }
 
 
@@ -444,14 +469,22 @@ def inputs(folder):
     return {**INPUTS, "p.v": read(built), "dump": read(dump)}
 
 
+def shim_in(folder):
+    """The library that refuses a system call; nothing without a C compiler."""
+    words = [os.environ.get("CC", "cc"), "-O1", "-shared", "-fPIC", "-o", f"{folder}/refuse.so", f"{TOP}/scripts/refuse_calls.c", "-ldl"]
+    return words[-3] if shutil.which(words[0]) and not told(words).returncode else None
+
+
 class Kit:
     """The inputs, the calls that can be made here, how they usually end, and what was found."""
 
-    def __init__(self, folder, jobs):
-        self.pool, self.inputs = concurrent.futures.ThreadPoolExecutor(jobs), inputs(folder)
-        self.skipped, self.runs, self.faults, self.can_mount = [], 0, 0, can_mount()
+    def __init__(self, folder, jobs, tool=None, step=1):
+        self.pool, self.inputs, self.shim = concurrent.futures.ThreadPoolExecutor(jobs), inputs(folder), shim_in(folder)
+        self.skipped, self.runs, self.faults, self.can_mount, self.step = [], 0, 0, can_mount(), step
         self.statuses = {call.tool: statuses(call.tool) for call in CALLS}
-        self.calls = [call for call in CALLS if not self.lacks(call.needs)]
+        calls = [call for call in CALLS if tool in (None, call.tool) and not self.lacks(call.needs)]
+        self.calls = sorted(calls, key=lambda call: not call.is_long)  # what takes long begins first
+        self.small = {call.tool: call for call in reversed(calls)}.values()
         self.usual = dict(zip(self.calls, self.pool.map(lambda call: ended(call.run(), self.inputs), self.calls)))
         for call, now in self.usual.items():
             self.judge("usual", Trial(call.run(), 0), now)
@@ -471,48 +504,41 @@ class Kit:
         """The files that a call writes. A PDF has a date."""
         return {name: None if name.endswith(".pdf") else content for name, content in self.usual[call].changed.items()}
 
-    def try_part(self, part):
-        """Makes the trials of a part side by side."""
-        trials, begun = [trial for call in self.calls for trial in PARTS[part](self, call)], time.monotonic()
-        for trial, now in zip(trials, self.pool.map(lambda trial: ended(trial.run, self.inputs), trials)):
-            self.judge(part, trial, now)
-        print(f"tools_edges: {part}, {len(trials)} runs, {time.monotonic() - begun:.0f} s", flush=True)
+    def refusing(self, number):
+        """The words before those of a program of which a system call is refused, or with 0 all are counted."""
+        return f"LD_PRELOAD={self.shim} REFUSE_CALL={number} REFUSE_REPORT={HERE}/refused exec "
 
-    def judge(self, part, trial, now, more=()):
+    def kinds(self, call):
+        """A letter for each system call of a call."""
+        return ended(call.run(call.line(begin=self.refusing(0))), self.inputs).changed.get("refused", b"").decode()
+
+    def try_parts(self, parts):
+        """Makes the trials of these parts side by side, and says of each call how many there were."""
+        trials = [(call, part, trial) for call in self.calls for part in parts for trial in PARTS[part](self, call)]
+        found = zip(trials, self.pool.map(lambda each: ended(each[2].run, self.inputs), trials))
+        for call, group in itertools.groupby(found, lambda each: each[0][0]):
+            count = 0
+            for count, ((_, part, trial), now) in enumerate(group, 1):
+                self.judge(part, trial, now)
+            print(f"tools_edges: {call.tool} {call.words}: {count} runs", flush=True)
+
+    def judge(self, part, trial, now):
         """Says what is wrong with a run."""
         self.runs += 1
-        wrong = [*common_faults(self, trial, now), *faults_of(trial, now), *more]
+        name = now.changed.pop("refused", b"").decode()
+        of_refused = refused_faults(self.usual[trial.refuses], now) if trial.refuses else ()
+        wrong = [*common_faults(self, trial, now), *faults_of(trial, now), *of_refused]
         if wrong:
             self.faults += 1
-            print(f"tools_edges: {part}: {trial.run.tool}: {trial.run.line!r}: {'; '.join(wrong)}", flush=True)
+            what = " ".join(filter(None, (part, name)))
+            print(f"tools_edges: {what}: {trial.run.tool}: {trial.run.line!r}: {'; '.join(wrong)}", flush=True)
 
 
-def refused(kit, folder):
-    """Refuses each system call of the small calls."""
-    words = [os.environ.get("CC", "cc"), "-O1", "-shared", "-fPIC", "-o", f"{folder}/refuse.so", f"{TOP}/scripts/refuse_calls.c", "-ldl"]
-    if not shutil.which(words[0]) or told(words).returncode:
-        kit.skip("refused system calls: no C compiler")
-        return
-    for tool in sorted({call.tool for call in kit.calls}):
-        begun = time.monotonic()
-        count = refused_of(kit, f"{folder}/refuse.so", next(call for call in kit.calls if call.tool == tool))
-        print(f"tools_edges: {count} refused system calls of {tool}, {time.monotonic() - begun:.0f} s", flush=True)
-        if not count:
-            kit.skip(f"refused system calls of {tool}")
-
-
-def refused_of(kit, shim, call):
-    """Refuses each system call of a call, some at once, until none is made any more. Gives how many there were."""
-    for first in itertools.count(1, BATCH):
-        begins = [f"LD_PRELOAD={shim} REFUSE_CALL={first + i} REFUSE_REPORT={HERE}/refused exec " for i in range(BATCH)]
-        trials = [Trial(call.run(call.line(begin=begin))) for begin in begins]
-        count = 0
-        for trial, now in zip(trials, kit.pool.map(lambda trial: ended(trial.run, kit.inputs), trials)):
-            name = now.changed.pop("refused", None)
-            count += name is not None
-            kit.judge(f"refused {name}", trial, now, refused_faults(kit.usual[call], now))
-        if count < BATCH:
-            return first - 1 + count
+def a_part(word):
+    """The name of a part."""
+    if word not in PARTS:
+        raise argparse.ArgumentTypeError(f"there is no part {word}")
+    return word
 
 
 def refused_faults(usual, now):
@@ -529,7 +555,9 @@ def refused_faults(usual, now):
 def main():
     words = parser(__doc__)
     words.add_argument("--jobs", type=a_number, default=os.cpu_count(), help="how many runs at once (one for each processor)")
-    words.add_argument("parts", metavar="PART", nargs="*", help=f"one of {', '.join(PARTS)}, refused")
+    words.add_argument("--tool", choices=sorted({call.tool for call in CALLS}), help="this program alone")
+    words.add_argument("--modules", type=a_number, default=10, metavar="N", help="refuse each N-th call that loads a module (10)")
+    words.add_argument("parts", metavar="PART", nargs="*", type=a_part, help=f"one of {', '.join(PARTS)}")
     chosen = words.parse_args()
     there, known = {os.path.basename(path) for path in glob.glob(f"{TOP}/tools/safl-*")}, {call.tool for call in CALLS}
     if there != known:
@@ -539,15 +567,13 @@ def main():
     begun = time.monotonic()
     for number in SIGNALS[:-1]:
         signal.signal(number, signal.default_int_handler)  # one that is ignored here would be ignored in all runs
+    compileall.compile_dir(f"{TOP}/tools", quiet=2)  # so that no run does it, and each makes the same calls
     with tempfile.TemporaryDirectory() as folder:
-        kit = Kit(folder, chosen.jobs)
-        for part in PARTS:
-            if not chosen.parts or part in chosen.parts:
-                kit.try_part(part)
-        if not chosen.parts or "refused" in chosen.parts:
-            refused(kit, folder)
+        kit = Kit(folder, chosen.jobs, chosen.tool, max(1, chosen.modules))
+        kit.try_parts(list(dict.fromkeys(chosen.parts)) or list(PARTS))
     skipped = "".join(f", SKIPPED {what}" for what in kit.skipped)
-    print(f"tools_edges: {kit.runs} runs, {kit.faults} faults, {time.monotonic() - begun:.0f} s{skipped}")
+    used = os.times().children_user + os.times().children_system
+    print(f"tools_edges: {kit.runs} runs, {kit.faults} faults, {time.monotonic() - begun:.0f} s, {used:.0f} s of processors{skipped}")
     return 1 if kit.faults else 0
 
 

@@ -270,6 +270,7 @@ def wrong_uses(checks, folder):
     inline, out = ["--inline", "f", "--source"], f"{folder}/g"
     apart = "--source OUT goes with --inline or --inline-below, and neither without it"
     of_main = "nothing calls main but main itself, so it cannot be written out"
+    ands = "--front goes with --luts or --place, and not with DSP blocks, as ANDs do not tell what those spare"
     cases = (
         ([], 2, "the following arguments are required: IN, --calls (try --help)"),
         ([SHARED, "--calls", f"{folder}/none"], 3, f"cannot read {folder}/none"),
@@ -287,6 +288,8 @@ def wrong_uses(checks, folder):
         ([SHARED, "--calls", call, "--inline", "main", "--source", out], 2, of_main),
         ([SHARED, "--calls", call, "--dsp"], 2, "--device, --dsp and --seed go with --luts or --place"),
         ([SHARED, "--calls", call, "--luts", "--dsp"], 2, "hx8k has no DSP blocks; up5k and u4k have"),
+        ([SHARED, "--calls", call, "--front"], 2, ands),
+        ([SHARED, "--calls", call, "--luts", "--front", "--device", "ecp5"], 2, ands),
         ([SHARED, "--calls", call, "--luts", "--seeds", "3"], 2, "--seeds goes with --place: there is no clock without"),
         ([SHARED, "--calls", call, "--known", fault], 3, f"{fault} is no file of --known"),
         ([SHARED, "--calls", call, "--safl", f"{folder}/none"], 30, missing),
@@ -398,6 +401,8 @@ def known_before(checks, folder):
     figures = json.loads(read(f"{folder}/known.json"))
     checks.same("figures of an earlier run", 2, len(figures))
     checks.same("the same from a file", first.stdout, explore(*words).stdout)
+    hexadecimal = [written(folder, "five in hexadecimal", "0x5") if word == words[2] else word for word in words]
+    checks.same("the same for a call in hexadecimal", first.stdout, explore(*hexadecimal).stdout)
     checks.true("another program has other figures", told([EXPLORE, *words, "--safl", lame]).returncode)
 
 
@@ -431,6 +436,20 @@ def counted(checks, folder):
     point = points_of(f"{folder}/luts")[0]
     checks.same("safl-explore --luts", (int(luts), flops), (point["luts"], point["flops"]))
     checks.same("synthesis for ECP5", 0, place(built, "--device", "ecp5", "--counts").returncode)
+
+
+def front(checks, folder):
+    """The unbeaten points of a search by ANDs, with the LUTs that Yosys counts."""
+    calls = first_call(folder, "crc32")
+    for out, words in (("ands", []), ("front", ["--luts", "--front"])):
+        explore(source_of("crc32"), "--calls", calls, *words, "--out", f"{folder}/{out}")
+    by_ands, by_luts = points_of(f"{folder}/ands"), points_of(f"{folder}/front")
+    checks.same("points of the front", [point["steps"] for point in by_ands], [point["steps"] for point in by_luts])
+    for point in by_luts:
+        counts = place(point["source"], "--device", "hx8k", "--counts").stdout
+        checks.same(f"counts of {point['source']}", f"luts {point['luts']}\nflip-flops {point['flops']}\n", counts)
+    best = max(by_luts, key=lambda point: 1 / point["luts"] / (point["cycles"] + 1))
+    checks.same("the most calls for the area", max(point["calls for area"] for point in by_luts), best["calls for area"])
 
 
 def placed(checks, folder):
@@ -482,7 +501,7 @@ def installed(checks, folder):
 PARTS = (
     (known_points, ()), (shared_point, ()), (joined_with_main, ()), (texts, ()), (by_text, ()), (inlined, ()), (known_before, ()),
     (wrong_uses, ()), (wrong_uses_of_place, ()), (interrupted, ()),
-    (installed, ("make",)), (on_cluster, ("distributed",)), (pictures, ("matplotlib",)), (counted, ("yosys",)),
+    (installed, ("make",)), (on_cluster, ("distributed",)), (pictures, ("matplotlib",)), (counted, ("yosys",)), (front, ("yosys",)),
     (placed, ("yosys", "nextpnr-ice40")), (simulated, ("make", "iverilog")),
     (streamed, ("make", "yosys", "nextpnr-ice40", "icepack")),
 )

@@ -401,6 +401,7 @@ def wrong_uses(trial):
         ([source, 5, "--frob"], 2, "--frob"),
         ([source, -5, *page], 2, "5"),
         ([source, "5x", *page], 2, "5x is no number"),
+        ([source, "0x", *page], 2, "0x is no number"),
         ([source, 5, *page, "--cycles", 0], 2, "0 is no number of cycles"),
         ([source, 5, *page, "--signals", "nothing"], 2, "no signal nothing"),
         ([source, 5, *page, "--waves", "9"], 2, "FIRST-LAST"),
@@ -414,6 +415,7 @@ def wrong_uses(trial):
         ([wrong, 5, *page], 1, "E08 unknown variable"),
         ([source, *page], 8, "main takes 1 argument"),
         ([source, 256, *page], 8, "no number of 8 bits"),
+        ([source, "0x100", *page], 8, "no number of 8 bits"),
         ([source, 5, *page, "--safl", trial.path("nothing")], 30, "no program"),
         ([loop, 5, *page, "--cycles", 40], 6, "no result in 40 cycles"),
     ]

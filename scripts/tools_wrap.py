@@ -69,8 +69,9 @@ class Test:
         return os.path.join(self.folder, name)
 
     def build(self, example, option):
-        """Builds the circuit, and writes the script of its calls."""
-        write(self.here("calls"), "".join(" ".join(map(str, arguments)) + "\n" for arguments, _ in example.rows))
+        """Builds the circuit, and writes the script of its calls, every other one in hexadecimal."""
+        lines = (" ".join(map((hex, str)[row % 2], arguments)) for row, (arguments, _) in enumerate(example.rows))
+        write(self.here("calls"), "".join(f"{line}\n" for line in lines))
         if told([self.program, "build", example.path, self.here("built.v"), *option]).returncode:
             self.say(f"build {' '.join(option)} of {example.name} fails")
 
@@ -224,6 +225,7 @@ def refusals(source, lines):
     calls = [*bench, "--source", source, "--script"]
     cpp = [word.replace("verilog", "cpp").replace("b.v", "b.cpp") for word in calls]
     loop = [*bench[1:], "--source", "loop.safl"]
+    itself = "the copy for --core would be built.v itself: choose another name, or another folder for --out"
     foreign, taken = "this is no file that safl build wrote", "is read or written already, so nothing is written to it"
     return [
         ([], 2, "the following arguments are required: FILE (try --help)"),
@@ -241,6 +243,7 @@ def refusals(source, lines):
         (["built.v", "--formal", "p.sv"], 2, "--formal needs --out too (try --help)"),
         (["built.v", "--core", "c"], 2, "--core needs --out too (try --help)"),
         (["built.v", "--out", "o.v", "--core", "o"], 2, f"o.v {taken}"),
+        (["built.v", "--out", "o.v", "--core", "built"], 2, itself),
         (["built.v", "--out", "o.v", "--core", "wire"], 2, "wire is no name for a module"),
         (["built.v", "--out", "o.v", "--formal", "p.v"], 2, "the name p.v does not end with .sv (try --help)"),
         (["built.v", "--out", "o.v", "--formal", "safl.sv"], 2, "safl is no name for a module: choose another --formal"),
@@ -257,6 +260,7 @@ def refusals(source, lines):
         (["cut.v"], 7, f"cut.v:{lines - 1}: {foreign}"),
         (["other.v"], 7, f"other.v:{lines}: {foreign}"),
         ([*calls, "wrong"], 8, "wrong: line 2: main takes 2 arguments, 1 given"),
+        ([*calls, "odd"], 8, "odd: line 1: argument 2 is no number of 64 bits"),
         ([*calls, "wrong", "--safl", "none"], 30, "there is no program none (name it with --safl PROGRAM)"),
         ([*calls, "wrong", "--run"], 30, "the program iverilog is missing (Debian: apt install iverilog)"),
         (["built.v", "--out", "o.v", "--formal", "p.sv", "--run"], 30, "the program yosys is missing (Debian: apt install yosys)"),
@@ -270,7 +274,7 @@ def on_refusals(test, example):
     lines = text.count("\n")
     written(test.folder, "cut.v", text[:text.rindex("else")])
     written(test.folder, "other.v", text.replace("endmodule", "  initial safl = 1;\nendmodule"))
-    for name, content in (("wrong", "48 36\n5\n"), ("empty", ""), ("bytes", "7\n8\n")):
+    for name, content in (("wrong", "48 36\n5\n"), ("odd", "0x30 0x\n"), ("empty", ""), ("bytes", "7\n8\n")):
         written(test.folder, name, content)
     loop = written(test.folder, "loop.safl", "fun main(x:8):8 = if x == 7 then x else main(x)\n")
     told([test.program, "build", loop, test.here("loop.v")])

@@ -96,7 +96,7 @@ def main():
     parser.add_argument("--table", action="store_true", help="print a row for each proof and each fault")
     parser.add_argument("--only", choices=("proofs", "faults"), help="do a part")
     given = parser.parse_args()
-    missing = [name for name in ("yosys", "yosys-smtbmc", given.solver) if not shutil.which(name)]
+    missing = [name for name in ("yosys", "yosys-smtbmc", SOLVERS[given.solver][0]) if not shutil.which(name)]
     if missing:
         print(f"tools_wrap_formal: SKIPPED, {missing[0]} is missing")
         return 0

@@ -81,7 +81,7 @@ def counts_of(module):
 
 def complaint(told, named):
     """The line in which a tool says what it refuses, with the user's names in place of the plain ones."""
-    lines = (told.err + told.out).strip().split("\n")
+    lines = (told.err + told.out).strip().splitlines() or [f"status {told.status}"]
     line = next((line for line in lines if "ERROR" in line), lines[0]).strip()
     for plain, name in named.items():
         line = line.replace(plain, one_line(name))

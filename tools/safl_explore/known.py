@@ -16,7 +16,7 @@ class Known:
         try:
             self.found = json.loads(text)
             fits = all({"ands", "luts"} & set(figures) for figures in self.found.values())
-        except (ValueError, TypeError, AttributeError):
+        except (ValueError, TypeError, AttributeError, RecursionError):
             fits = False
         if not fits:
             raise Refusal(CANNOT_READ, f"{file.name} is no file of --known")

@@ -1,6 +1,5 @@
 """Draws the points: area against time, and the line of those that no other beats."""
 import io
-import logging
 import os
 import warnings
 
@@ -13,9 +12,8 @@ LETTER, LINE = 5.5, 9  # the room of a label's letter, in points of print
 
 
 def ready():
-    """Asks for the library, which says nothing of its own and computes in one thread."""
+    """Asks for the library, which warns of nothing and computes in one thread."""
     os.environ.setdefault("OPENBLAS_NUM_THREADS", "1")
-    logging.getLogger("matplotlib").setLevel(logging.CRITICAL)
     warnings.simplefilter("ignore")
     outside.library("matplotlib", "python3-matplotlib")
 

@@ -139,6 +139,10 @@ class Point:
         """How many calls the circuit makes in a second, if so many take its cycles: the next one can begin one cycle after the last."""
         return int(calls * 1e6 * self.figures["mhz"] / (self.cycles + calls))
 
+    def calls_for_area(self, calls):
+        """How many of so many calls the circuit makes in a unit of time, for a unit of its area."""
+        return calls * self.figures.get("mhz", 1) / (self.cycles + calls) / self.area
+
 
 def unbeaten(points):
     """The points that no other beats, the fastest first: any other one takes more time, or has more area."""

@@ -1,5 +1,6 @@
 """What safl-explore does."""
 import sys
+from dataclasses import replace
 
 import safl_place
 from safl_explore import NAME, picture, tree
@@ -11,7 +12,7 @@ from safl_explore.search import Search
 from safl_explore.telling import Telling, commands
 from safl_explore.words import checked, opened, words
 from safl_tools import outside
-from safl_tools.ending import Refusal, told_of
+from safl_tools.ending import Refusal, all_of, told_of
 
 RECURSION = 20_000  # a source may have a hundred levels of nesting, and each takes some calls of the reader
 
@@ -51,10 +52,13 @@ def explored(chosen, safl):
     """The search, and what ended it early."""
     pool = Cluster(chosen.scheduler) if chosen.scheduler else Here(chosen.jobs)
     known, early = Known(chosen.known, chosen.before, safl), None
-    search = Search(safl, pool, known, task_of(chosen, safl), chosen, progress)
+    task = task_of(chosen, safl)
+    search = Search(safl, pool, known, replace(task, device=None, clock=False) if chosen.front else task, chosen, progress)
     try:
         search.first(chosen.source.text)
         search.walk()
+        if chosen.front:
+            search.front(task)
     except (KeyboardInterrupt, Refusal, OSError, MemoryError) as fault:
         if not search.points:
             raise
@@ -90,11 +94,12 @@ def explore(chosen, safl):
     if not early:
         telling.advise()
     telling.tell_end()
-    search.known.keep()
+    works = [search.known.keep]
     if chosen.out:
-        telling.keep()
+        works.append(telling.keep)
     if chosen.plot:
-        draw(chosen, search, telling.unbeaten)
+        works.append(lambda: draw(chosen, search, telling.unbeaten))
+    all_of(works)
     if early:
         status, line = told_of(early)
         raise Refusal(status, f"{line}: what is above was found until then")

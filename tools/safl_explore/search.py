@@ -29,13 +29,17 @@ class Search:
         self.threads = concurrent.futures.ThreadPoolExecutor(chosen.jobs)
         self.most, self.end, self.keeps = chosen.points, time.monotonic() + chosen.seconds, chosen.keep
         self.timed, self.points, self.refused = [], [], []
-        self.seen, self.wanted, self.all_tried = set(), None, False
+        self.seen, self.wanted, self.all_tried, self.dropped = set(), None, False, 0
 
     def left(self):
         return max(0, self.end - time.monotonic())
 
+    def built(self):
+        """How many sources were built, also if they are no points any more."""
+        return len(self.points) + self.dropped
+
     def over(self):
-        return len(self.points) + len(self.refused) >= self.most or not self.left()
+        return self.built() + len(self.refused) >= self.most or not self.left()
 
     def shown(self, program):
         """The program as it is measured and written."""
@@ -224,6 +228,28 @@ class Search:
             best = [(point.time, point.area) for point in unbeaten(self.points)]
             last, idle = best, idle + 1 if best == last else 0
         self.all_tried &= self.left() > 0
+
+    def front(self, task):
+        """Measures the source and the points that no other beats in another way, and drops the others. If that ends early, all is as it was."""
+        built, figures, before, end = self.points, [point.figures for point in self.points], self.task, self.end
+        first, *_ = built
+        others = [point for point in unbeaten(built) if point is not first]
+        self.task, self.points, self.end = task, [], float("inf")
+        try:
+            for point in (first, *others):
+                point.figures = None
+            self.build([first])
+            if first.refused:
+                raise Refusal(*first.refused)
+            self.build(others)
+            self.dropped = len(built) - len(self.points)
+        except BaseException:
+            self.task, self.points = before, built
+            for point, known in zip(built, figures):
+                point.figures = known
+            raise
+        finally:
+            self.end = end
 
 
 def left_out(program, shown):

@@ -101,9 +101,24 @@ class Telling:
         if better == first.cycles and smaller == first.area:
             every = "all single steps and sets of functions were tried" if self.search.all_tried else "not all single steps were tried"
             print(f"none was found that takes fewer cycles with no more {area}; {every}")
+        self.tell_best()
         span = self.search.least.span(first.program)
         if span and span < first.cycles:
             print(f"copies alone bring the source to no fewer than {span:,} cycles, its span; more is spared by fewer calls")
+
+    def for_area(self, point):
+        """The calls that a point makes in some time for its area, as a multiple of those of the source."""
+        calls = len(self.search.wanted)
+        return point.calls_for_area(calls) / self.first.calls_for_area(calls)
+
+    def tell_best(self):
+        """Says which point makes the most calls for its area, if there are some."""
+        if not self.numbered:
+            return
+        number, best = max(self.numbered, key=lambda pair: self.for_area(pair[1]))
+        what = f"calls a {'second' if 'mhz' in best.figures else 'cycle'} for {'each LUT' if 'luts' in best.figures else 'its area'}"
+        times = self.for_area(best)
+        print(f"point {number} makes the most {what}: {times:.2f} times those of the source" if times > 1 else f"the source makes the most {what}")
 
     def advise(self):
         for line in advice(self.first.program, self.search.least, self.search.task.products):
@@ -113,7 +128,7 @@ class Telling:
         search = self.search
         end = "the budget is used up" if search.over() else "nothing else promises to be better"
         replies = f"all with the same replies to {counted(len(search.wanted), 'call')}"
-        print(f"{len(search.points)} built of {counted(len(search.timed), 'source')}, {replies}; {end}")
+        print(f"{search.built()} built of {counted(len(search.timed), 'source')}, {replies}; {end}")
         if search.refused:
             print(f"{counted(len(search.refused), 'source')} left out, the first for: {search.refused[0][1]}")
 
@@ -138,4 +153,4 @@ class Telling:
         """What points.json has of a point."""
         unbeaten = any(point is other for _, other in self.unbeaten)
         told = {"point": name, "source": path, "steps": list(point.how), "chain": point.chain, "cycles": point.cycles}
-        return {**told, "area": point.area, **point.figures, "unbeaten": unbeaten}
+        return {**told, "area": point.area, **point.figures, "unbeaten": unbeaten, "calls for area": round(self.for_area(point), 3)}

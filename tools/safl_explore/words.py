@@ -31,6 +31,7 @@ def exploring(add):
     add("--known", metavar="FILE", help="take what FILE has of sources that were built before, and add to it")
     add("--luts", action="store_true", help="area is LUTs, by Yosys")
     add("--place", action="store_true", help="area is LUTs, and time is cycles and clock, by Yosys and nextpnr")
+    add("--front", action="store_true", help="with --luts or --place: look by ANDs, and measure only what no other point beats")
     devices = {"metavar": "DEVICE", "choices": safl_place.DEVICES}
     add("--device", **devices, help="the device for --luts and --place (hx8k), as safl-place has it")
     add("--dsp", action="store_true", help="multiply by the DSP blocks of the device (up5k, u4k); an ECP5 always does")
@@ -60,11 +61,18 @@ def checked(chosen):
         raise Refusal(WRONG_USE, "either --luts or --place")
     if (chosen.device or chosen.dsp or chosen.seed is not None) and not (chosen.luts or chosen.place):
         raise Refusal(WRONG_USE, "--device, --dsp and --seed go with --luts or --place")
+    if chosen.front and (not (chosen.luts or chosen.place) or has_blocks(chosen)):
+        raise Refusal(WRONG_USE, "--front goes with --luts or --place, and not with DSP blocks, as ANDs do not tell what those spare")
     if chosen.seeds and not chosen.place:
         raise Refusal(WRONG_USE, "--seeds goes with --place: there is no clock without")
     safl_place.refuse_dsp(chosen.device or "hx8k", chosen.dsp)
     if chosen.plot:
         pictures.kind(chosen.plot)
+
+
+def has_blocks(chosen):
+    """Whether products are made by DSP blocks."""
+    return chosen.dsp or safl_place.DEVICES[chosen.device or "hx8k"].family == "ecp5"
 
 
 def opened(chosen):
@@ -73,8 +81,10 @@ def opened(chosen):
     if not chosen.calls.content:
         raise Refusal(WRONG_USE, f"{chosen.calls} has no call")
     inputs = [chosen.source, chosen.calls]
-    chosen.before = files.read(chosen.known) if chosen.known and os.path.exists(chosen.known) else "{}"
-    chosen.result, chosen.plot, chosen.known = files.outputs(inputs, [chosen.result, chosen.plot, chosen.known])
+    outputs = files.outputs(inputs, [chosen.result, chosen.plot, chosen.known])
+    is_known = chosen.known and os.path.exists(chosen.known)
+    chosen.before = files.Input(chosen.known, "known", files.KNOWN_MOST).text if is_known else "{}"
+    chosen.result, chosen.plot, chosen.known = outputs
     if chosen.out:
         chosen.out = files.Folder(chosen.out)
         for name in filter(lambda name: may_be_written(chosen, name), os.listdir(chosen.out.name)):

@@ -3,9 +3,7 @@ import re
 import shutil
 
 from safl_look.looks import colour
-from safl_tools import files
-from safl_tools.ending import TOOL_FAILED, Refusal
-from safl_tools.outside import Told
+from safl_tools import files, outside
 
 SITES_MOST = 200
 
@@ -46,7 +44,7 @@ def drawn(program, folder):
     if not dot:
         return "", "The graph is left out, since the program dot is missing (Debian: apt install graphviz)."
     files.write(f"{folder}/units.dot", text(program))
-    told = Told([dot, "-Tsvg", "units.dot"], folder)
+    told = outside.Told([dot, "-Tsvg", "units.dot"], folder)
     if told.status:
-        raise Refusal(TOOL_FAILED, f"dot ends with {told.status}")
+        raise outside.failed("dot", told)
     return re.sub(r"<title>.*?</title>", "", told.out[told.out.index("<svg"):]), ""

@@ -9,6 +9,7 @@ from safl_tools import requests
 
 WRONG_USE, CANNOT_READ, CANNOT_WRITE, NO_MEMORY, TOO_LONG = 2, 3, 4, 5, 10  # as `safl` has them
 NOT_THERE, TOOL_FAILED, DIFFERENT, FAULT, INTERRUPTED = 30, 31, 32, 33, 130
+NO_THREAD = "can't start new thread"  # what Python says if the system refuses one
 NO_ROOM = (errno.ENOSPC, errno.EDQUOT, errno.EROFS, errno.EFBIG)
 
 
@@ -127,11 +128,25 @@ def told_of(fault):
         return NO_MEMORY, "out of memory"
     if isinstance(fault, OSError):
         return told_of_system(fault)
+    if isinstance(fault, RuntimeError) and str(fault) == NO_THREAD:
+        return FAULT, NO_THREAD
     if isinstance(fault, ImportError):
         return NOT_THERE, f"the Python library {fault.name or 'of this program'} cannot be loaded"
     if sys.flags.dev_mode:
         raise fault
     return FAULT, f"{type(fault).__name__} at {place_of(fault)}: {fault} (please report this)"
+
+
+def all_of(works):
+    """Does all of this work, also if some of it is refused. Then the first refusal is raised at the end."""
+    first = None
+    for work in works:
+        try:
+            work()
+        except Refusal as refusal:
+            first = first or refusal
+    if first:
+        raise first
 
 
 def outcome(work):
@@ -163,6 +178,13 @@ def ended(name, work):
     return status
 
 
+def main_of(module):
+    """Runs what a module has. It is loaded here, so that this may fail or be interrupted too. What libraries log is not printed."""
+    logging = importlib.import_module("logging")
+    logging.getLogger().addHandler(logging.NullHandler())
+    return importlib.import_module(module).main()
+
+
 def run(name, module):
-    """Runs the program that a module has. The module is loaded here, so that this may fail or be interrupted too."""
-    sys.exit(ended(name, lambda: importlib.import_module(module).main()))
+    """Runs the program that a module has."""
+    sys.exit(ended(name, lambda: main_of(module)))

@@ -4,10 +4,11 @@ import os
 import re
 import stat
 
-from safl_tools import temporary
+from safl_tools import numbers, temporary
 from safl_tools.ending import CANNOT_READ, CANNOT_WRITE, TOO_LONG, WRONG_USE, Refusal, one_line, send
 
 SOURCE_MOST, SCRIPT_MOST, VERILOG_MOST = 1 << 20, 1 << 20, 1 << 26  # as for `safl`
+KNOWN_MOST = 1 << 26  # of a file of figures
 PIECE = 1 << 16
 
 
@@ -46,11 +47,13 @@ def identity(state):
 class Input:
     """A file that the user named. It is read once, so it may be a pipe. A copy has a plain name, and is what others read.
 
-    As a path it is the copy, and in a message the user's name.
+    As a path it is the copy, and in a message the user's name. The copy may be another text, which is made of what is read.
     """
 
-    def __init__(self, name, plain, most):
+    def __init__(self, name, plain, most, made=None):
         self.name, self.identity, self.content = name, *self.taken(name, most)
+        if made:
+            self.content = encoded(made(self.text))
         self.path = os.path.join(temporary.kept_folder(), plain)
         write(self.path, self.content)
 
@@ -94,7 +97,8 @@ def source(name):
 
 
 def script(name):
-    return Input(name, "script", SCRIPT_MOST)
+    """A script of calls. Its numbers may be hexadecimal; in the copy they are decimal."""
+    return Input(name, "script", SCRIPT_MOST, numbers.script)
 
 
 def verilog(name, plain="module.v"):

@@ -3,11 +3,12 @@ import argparse
 import re
 
 HEXADECIMAL = re.compile(r"0[xX]([0-9a-fA-F]+(?:_[0-9a-fA-F]+)*)")
+LONGEST = 1000  # a longer word is no argument of any circuit
 
 
 def is_hexadecimal(word):
     """Whether a word is a number in hexadecimal, perhaps with `_` between its digits."""
-    return bool(HEXADECIMAL.fullmatch(word))
+    return len(word) <= LONGEST and bool(HEXADECIMAL.fullmatch(word))
 
 
 def decimal(word):

@@ -40,8 +40,7 @@ class Told:
 
     def __init__(self, words, folder=None, meanwhile=None, **how):
         name = os.path.basename(words[0])
-        if RUNNING.is_closed and threading.current_thread() is not threading.main_thread():
-            raise Refusal(INTERRUPTED, "interrupted")
+        go_on()
         try:
             child = started(words, folder, how)
         except OSError as fault:
@@ -49,6 +48,7 @@ class Told:
                 raise
             raise Refusal(NOT_THERE, f"cannot run {name}: {fault.strerror}") from None
         try:
+            go_on()  # as it may have been started while the others were ended
             if meanwhile:
                 meanwhile()
             self.out, self.err = child.communicate()
@@ -59,6 +59,12 @@ class Told:
         self.status = child.returncode
         if self.status < 0:
             raise Refusal(TOOL_FAILED, f"{name} was ended by signal {-self.status}")
+
+
+def go_on():
+    """Refuses to go on in a thread for which nothing more may run."""
+    if RUNNING.is_closed and threading.current_thread() is not threading.main_thread():
+        raise Refusal(INTERRUPTED, "interrupted")
 
 
 def started(words, folder, how):
@@ -120,6 +126,12 @@ class Piped:
                 self.read(lines)
             except (LookupError, ValueError):
                 self.is_cut = True
+
+
+def failed(name, told, line=-1):
+    """The refusal for a program that failed: the last line that it printed, or another one, or else its status."""
+    lines = (told.err.strip() or told.out.strip()).splitlines()
+    return Refusal(TOOL_FAILED, f"{name}: {lines[line].strip()}" if lines else f"{name} ends with {told.status}")
 
 
 def spelled(word):

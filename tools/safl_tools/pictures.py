@@ -2,7 +2,7 @@
 import os
 
 from safl_tools import files, outside, temporary
-from safl_tools.ending import TOOL_FAILED, WRONG_USE, Refusal
+from safl_tools.ending import WRONG_USE, Refusal
 
 KINDS = ("svg", "png", "pdf")
 CONVERTER, PACKAGE = "rsvg-convert", "librsvg2-bin"
@@ -31,6 +31,6 @@ def of_svg(name, text):
         words = [outside.tool(CONVERTER, PACKAGE), "-f", kind(name), "-o", "picture", "picture.svg"]
         told = outside.Told(words, folder)
         if told.status:
-            raise Refusal(TOOL_FAILED, f"{CONVERTER} ends with {told.status}")
+            raise outside.failed(CONVERTER, told)
         with open(os.path.join(folder, "picture"), "rb") as file:
             return file.read()

@@ -94,6 +94,8 @@ def opened(given):
     given.source = given.source and files.source(given.source)
     given.script = given.script and files.script(given.script)
     core = given.core and os.path.join(os.path.dirname(given.out), f"{given.core}.v")
+    if core and files.mark_of(core) == given.file.identity:
+        raise Refusal(WRONG_USE, f"the copy for --core would be {given.file} itself: choose another name, or another folder for --out")
     trace = given.formal and given.run and given.formal.removesuffix(".sv") + ".vcd"
     names = [given.out, core, given.bench_out, given.formal, trace, given.header]
     opened_files = files.outputs([given.file, given.source, given.script], names)

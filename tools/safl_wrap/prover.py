@@ -3,10 +3,11 @@ import os
 import re
 
 from safl_tools import outside, temporary
-from safl_tools.ending import DIFFERENT, TOOL_FAILED, Refusal
+from safl_tools.ending import DIFFERENT, Refusal
 from safl_tools.files import write
 
-SOLVERS = {"z3": "z3", "cvc4": "cvc4", "cvc5": "cvc5", "yices": None}  # each with its Debian package
+# The solvers by the names that yosys-smtbmc has for them: the program of each, and its Debian package.
+SOLVERS = {"z3": ("z3", "z3"), "cvc4": ("cvc4", "cvc4"), "cvc5": ("cvc5", "cvc5"), "yices": ("yices-smt2", None)}
 DEPTH = 40  # the cycles in which a fault is looked for if the induction fails
 # What Yosys does: it reads the files, writes the circuit for the solver, and sees to it that no output depends on an input of the
 # same cycle, but for the reset. The names of files, inputs and outputs are the same in every proof.
@@ -33,7 +34,10 @@ class Prover:
     def __init__(self, solver):
         self.yosys, self.smtbmc = outside.tool("yosys", "yosys"), outside.tool("yosys-smtbmc", "yosys")
         self.solver = solver
-        outside.tool(solver, SOLVERS[solver])
+        name, package = SOLVERS[solver]
+        told = outside.Told([outside.tool(name, package), "--version"])  # whether it runs: yosys-smtbmc does not say it well
+        if told.status:
+            raise outside.failed(name, told)
 
     def proved(self, wrapper, properties, sides, trace):
         """How many properties are proved of the texts. A refusal says which one is not; a trace that shows it is written."""
@@ -62,7 +66,7 @@ class Prover:
         if DEPENDS in told.err:
             raise Refusal(DIFFERENT, "not proved: an output depends on an input of the same cycle")
         if told.status:
-            raise Refusal(TOOL_FAILED, f"yosys: {(told.err or told.out).strip().splitlines()[-1]}")
+            raise outside.failed("yosys", told)
 
     def fault(self, folder, *words):
         """The line that says what fails, if something does."""
@@ -75,7 +79,7 @@ class Prover:
             step = int(re.search(r"in step (\d+)", line)[1]) if "in step" in line else step
             found = found or re.search(r"Assert failed in \S+: (\S+)", line)
         if not found:
-            raise Refusal(TOOL_FAILED, f"yosys-smtbmc: {(told.err or told.out).strip().splitlines()[-1]}")
+            raise outside.failed("yosys-smtbmc", told)
         return f"{found[1]} in cycle {step}"
 
     def refuted(self, folder, trace):

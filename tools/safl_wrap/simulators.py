@@ -4,7 +4,6 @@ from dataclasses import dataclass
 from typing import Callable
 
 from safl_tools import files, outside, temporary
-from safl_tools.ending import TOOL_FAILED, Refusal
 from safl_wrap import bench, registers_bench
 from safl_wrap.registers import Registers
 
@@ -35,8 +34,7 @@ class Simulator:
             build, words = self.made(tools, names, top, name)
             built = outside.Told(build, folder)
             if built.status:
-                lines = (built.err or built.out).strip().split("\n")
-                raise Refusal(TOOL_FAILED, f"{os.path.basename(tools[0])}: {lines[0] or f'status {built.status}'}")
+                raise outside.failed(os.path.basename(tools[0]), built, 0)
             told = outside.Told(words, folder)
         return told.status or int("FAILED" in told.out), told.out
 
