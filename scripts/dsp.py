@@ -32,6 +32,8 @@ CIRCUITS = ("fir", "biquad", "butterfly", "complex", "pid", "mandelbrot")
 COMPLEX = (str((3 << 16) + 4), str((5 << 16) + 65534))  # 3 + 4i and 5 - 2i
 SHARED, COPIED = "shared", "copied"
 DEVICE, LIMIT, STEPS = safl_place.DEVICES["up5k"], "100000", 64
+LUTS = 5280  # so many has the device
+REFUSED = "refused"  # what Yosys says where it gives no counts
 ECP5 = {"without": "synth_ecp5 -nodsp", "with": "synth_ecp5"}
 
 
@@ -80,8 +82,12 @@ def synthesised(script, folder):
 
 
 def counted(file, way, folder):
-    """LUTs and DSP blocks on the UP5K."""
-    counts = safl_place.measured([file], DEVICE, options=safl_place.Options(dsp=way == "with"), clock=False)[0]
+    """LUTs and DSP blocks on the UP5K, or how Yosys ends without them."""
+    try:
+        counts = safl_place.measured([file], DEVICE, options=safl_place.Options(dsp=way == "with"), clock=False)[0]
+    except Refusal as refusal:
+        print(f"dsp: no counts: {refusal.line}", flush=True)
+        return {REFUSED: refusal.line.removeprefix("yosys: ")}
     return {"luts": counts.luts, "dsps": counts.dsps}
 
 
@@ -142,10 +148,11 @@ def measure_one(made, place, wanted, taken, folder):
     name, version = place
     for way in ECP5:
         figures = store()["circuits"].get(name, {}).get(version, {})
-        if figures.get("digest") == digest and wanted in figures[way]:
+        if figures.get("digest") == digest and (wanted in figures[way] or REFUSED in figures[way] and taken is not counted_for_ecp5):
             continue
         print(f"dsp: measures {name}, {version}, {way} DSP blocks: {wanted}", flush=True)
-        found, kept = taken(file, way, folder), store()
+        fits = wanted != "mhz" or figures[way]["luts"] <= LUTS and figures[way]["dsps"] <= DEVICE.dsps
+        found, kept = taken(file, way, folder) if fits else {"mhz": 0}, store()
         versions = kept["circuits"].setdefault(name, {})
         if versions.get(version, {}).get("digest") != digest:
             versions[version] = {"digest": digest, "cycle": cycle, "with": {}, "without": {}}
@@ -157,7 +164,8 @@ def measure_one(made, place, wanted, taken, folder):
 def cells(each):
     """LUTs, DSP blocks and MHz on the UP5K, and LUTs and DSP blocks of the ECP5. What has not been measured is empty."""
     found = ["" if key not in each else f"{each[key]:,.0f}" for key in ("luts", "dsps", "mhz", "ecp5", "ecp5 dsps")]
-    return [*found[:2], "does not fit" if found[2] == "0" else found[2], *found[3:]]
+    luts = "Yosys fails" if REFUSED in each else found[0]
+    return [luts, found[1], "does not fit" if found[2] == "0" else found[2], *found[3:]]
 
 
 def lines(kept):

@@ -38,7 +38,7 @@ from safl_waves import Trace, drawing
 CASES = f"{TOP}/crates/safl_cases/data/examples.case"
 INDEX = f"{TOP}/examples/README.md"
 PASSES = [(version, has_clock) for has_clock in (False, True) for version in ("as written", "by hand", "faster", "copies")]
-OTHER_FOLDERS = {"by_hand", "board", "cipher_stream", "coprocessor"}  # those that are no examples of their own
+OTHER_FOLDERS = {"by_hand", "faster", "board", "cipher_stream", "coprocessor"}  # those that are no examples of their own
 LOOK = os.environ.get("SAFL_LOOK", f"{TOP}/tools/safl-look")
 SHARED = "start in$a go$1 go$2 run$f arg$f$x res$f ret$1 ret$2 keep$1 run$main done result".split()  # the signals of shared.svg
 
@@ -97,7 +97,8 @@ def write_pages(examples, target):
     store = measured.Store()
     for example in examples:
         target.put(example.page, with_blocks(page_text(example.page), pages.blocks(example, store), example.page))
-    target.put(INDEX, with_blocks(page_text(INDEX), {"index": pages.index_block(examples, store)}, INDEX))
+    blocks = {"index": pages.index_block(examples, store), "explored": pages.explored_block()}
+    target.put(INDEX, with_blocks(page_text(INDEX), blocks, INDEX))
     target.put(CASES, cases_text(examples))
     cases = sum(example.case_count() for example in examples)
     print(f"examples: {len(examples)} sources, {cases} cases, {target.differing} files {target.done}")

@@ -1,7 +1,7 @@
 #!/usr/bin/env python3
 """Compares what safl-explore finds by itself with what a designer would try, and with what it found before:
 
-    explore_table.py [--page [--luts]] [--more FOLDER] [--jobs J] [NAME..]
+    explore_table.py [--more FOLDER] [--jobs J] [NAME..]
 
 For each circuit of examples/ (or those that are named), and for each NAME.safl of FOLDER that has its calls in NAME.calls, the
 table has cycles and area (ANDs, and eight for each register bit; functions that main does not need are left out) of the source,
@@ -9,8 +9,7 @@ of the best of all sets of functions that are written out everywhere, each with 
 safl-explore found when it took single steps only (explore_before.json has their steps; before.json those of FOLDER), and of the
 points that it finds now. Where there are several points that no other one beats, the cell has the fastest and the smallest. A
 circuit falls short if one of the others has fewer cycles or less area than all points of now that are as good in the other.
-Then the status is 1. With --page the table is that of examples/README.md: how the fastest point with no more area than the source
-is made, and what it takes; with --luts area is LUTs, by Yosys.
+Then the status is 1.
 """
 import argparse
 import glob
@@ -21,10 +20,9 @@ import re
 import sys
 import tempfile
 import time
-from collections import Counter
 
 from files import TOP, examples, read, written
-from gallery import PAGES
+from gallery import calls_of
 from program import PROGRAM, told
 
 sys.path.insert(0, f"{TOP}/tools")
@@ -33,19 +31,12 @@ from safl_explore import tree  # noqa: E402
 CALLS = {"multiply": "5 3\n255 255\n", "shared": "5\n", "even_odd": "3\n10\n", "seven": "\n"}
 
 
-def calls_of(name):
-    if name in CALLS:
-        return CALLS[name]
-    answer, values = PAGES[name]
-    return "".join(" ".join(map(str, answer(*each)[1])) + "\n" for each in values)
-
-
 def cases(more):
     """The name, the source, the calls and the steps of before of each circuit."""
     before = json.loads(read(f"{TOP}/scripts/explore_before.json"))
     tuned = [(os.path.basename(path).removesuffix(".safl"), path) for path in sorted(glob.glob(f"{TOP}/examples/by_hand/*.safl"))]
     for name, path in examples() + tuned:
-        yield name, path, calls_of(name.removesuffix("_tuned")), before.get(name, [])
+        yield name, path, CALLS.get(name.removesuffix("_tuned")) or calls_of(name.removesuffix("_tuned")), before.get(name, [])
     if more:
         before = json.loads(read(f"{more}/before.json"))
         for path in sorted(glob.glob(f"{more}/*.safl")):
@@ -104,11 +95,11 @@ class Circuit:
                 if joined != text and not told([PROGRAM, "check", written(self.folder, "joined.safl", joined)]).returncode:
                     yield joined
 
-    def found(self, jobs, *more):
+    def found(self, jobs):
         """The points that safl-explore finds, how many it built, and the seconds of processor time."""
         words = [f"{TOP}/tools/safl-explore", self.path, "--calls", self.calls, "--jobs", str(jobs), "--out", self.folder]
         begun = sum(os.times()[:4])
-        ran = told([*words, *more, "--safl", PROGRAM])
+        ran = told([*words, "--safl", PROGRAM])
         if ran.returncode:
             sys.exit(f"explore_table: {self.path}: {ran.stderr.strip()}")
         points = json.loads(read(f"{self.folder}/points.json"))
@@ -139,36 +130,12 @@ def row(name, path, calls, before, jobs):
     return cells, bool(short)
 
 
-def page_row(name, path, calls, chosen):
-    """The cells of a circuit for the page of the examples."""
-    with tempfile.TemporaryDirectory() as folder:
-        source, *points = Circuit(folder, path, calls).found(chosen.jobs, *["--luts"] * chosen.luts)[0]
-    better = [point for point in points if point["area"] <= source["area"] and point["cycles"] <= source["cycles"]]
-    if not better:
-        return [name, "", f"{source['cycles']:,}", "", f"{source['area']:,}", ""]
-    best = min(better, key=lambda point: (point["cycles"], point["area"]))
-    steps = "; ".join(f"{how} ({times} times)" if times > 1 else how for how, times in Counter(best["steps"]).items())
-    return [name, steps, *(f"{point[figure]:,}" for figure in ("cycles", "area") for point in (source, best))]
-
-
-def page(chosen):
-    """Prints the rows for the page of the examples."""
-    for name, path, calls, _ in cases(None):
-        if f"examples/{name}/" in path and (not chosen.names or name in chosen.names):
-            print(f"| {' | '.join(page_row(name, path, calls, chosen))} |", flush=True)
-
-
 def main():
     words = argparse.ArgumentParser(description=__doc__.split("\n")[0])
-    words.add_argument("--page", action="store_true")
-    words.add_argument("--luts", action="store_true")
     words.add_argument("--more", metavar="FOLDER")
     words.add_argument("--jobs", type=int, default=os.cpu_count())
     words.add_argument("names", metavar="NAME", nargs="*")
     chosen, fell = words.parse_args(), []
-    if chosen.page:
-        page(chosen)
-        return 0
     heads = ["circuit", "source", "sets of functions", "before", "now", "built", "processor s", "s", "falls short of"]
     print(f"| {' | '.join(heads)} |\n|{'---|' * len(heads)}")
     for name, *case in cases(chosen.more):

@@ -272,16 +272,12 @@ WAVES = {
 }
 # The row whose run stands on the page, where it isn't the second one
 SHOWN = {"gcd": 0, "float_add": 0, "utf8": 3, "secded": 2, "stack": 0, "fft": 0}
-# The functions whose calls a faster source has written out (`safl-explore --inline`), and whether its main is a member of the loop's group
-FASTER = {
-    **{name: ([], True) for name in ("isqrt", "bcd", "utf8")},
-    "crc32": (["byte"], True), "base64": (["character"], True), "cordic": (["angle"], True), "edit": (["equal"], True),
-    "xtea": (["mix", "word"], True), "reed_solomon": (["twice"], True),
-    "sha256": (["k"], False), "chacha20": (["add"], False), "bitonic": (["pair"], False),
-    "aes": (["sub"], False), "aes_ctr": (["sub"], False), "code_8b10b": (["decode", "encode"], False),
-    "dct": (["mac"], False), "dds": (["quarter"], False), "fft": (["scaled"], False),
-    "ws2812": (["light"], False), "secded": (["syndrome", "word", "encode", "decode"], False),
-}
+
+
+def calls_of(name):
+    """The calls of a page, as a script of a session: a line for each."""
+    answer, values = PAGES[name]
+    return "".join(" ".join(map(str, answer(*each)[1])) + "\n" for each in values)
 
 
 def word(r, width):

@@ -1,8 +1,9 @@
 """What stands between the marker lines of the gallery's pages."""
 import os
 
+import faster
 from files import TOP
-from gallery import ALL_PUBLIC, FASTER, PUBLIC, SUBJECTS, WAVES
+from gallery import ALL_PUBLIC, PUBLIC, SUBJECTS, WAVES
 from measured import DEVICE_NAME, DSP_BLOCKS, DSP_DEVICE_NAME
 
 HEXADECIMAL_FROM = 256  # a number from here on is written in hexadecimal too
@@ -87,8 +88,8 @@ def versions_of(example):
         copies, _, cycles = example.apart
         yield "copies", copies.source, cycles[longest]
     if example.faster:
-        faster, cycles = example.faster
-        yield "faster", faster.source, cycles[longest]
+        other, cycles = example.faster
+        yield "faster", other.source, cycles[longest]
 
 
 def clock_of(figures):
@@ -155,24 +156,19 @@ def cells_of(figures):
 
 def steps(example):
     """How the faster source is made."""
-    names, joins = FASTER[example.name]
-    lines = []
-    if names:
-        listed = " and ".join([", ".join(f"`{name}`" for name in names[:-1])] * (len(names) > 1) + [f"`{names[-1]}`"])
-        command = f"tools/safl-explore {example.source_name} --calls calls --inline {','.join(names)} --source faster.safl"
-        lines += [f"All calls of {listed} are written out; `calls` has the arguments of the table above, a call on each line.", ""]
-        lines += [f"    {command}", ""]
-    if joins:
-        main = "And then `main`" if names else "`main`"
-        lines += [f"{main} is a member of the loop's group: `and main` in place of `fun main`, by hand in the text.", ""]
-    return lines
+    point, file = faster.proposed(faster.found()[example.name]), f"{example.name}_faster.safl"
+    return [
+        f"[{file}](../faster/{file}) is what `safl-explore` proposes by itself: {faster.in_words(point['steps'])}. `calls` has the arguments of the"
+        " table above, a call on each line.", "",
+        f"    safl-explore {example.source_name} --calls calls --luts --front --out faster", "",
+    ]
 
 
 def faster_block(example, store):
-    faster, cycles = example.faster
-    before, after = store.figures(example.name, "as written", example.source), store.figures(example.name, "faster", faster.source)
+    other, cycles = example.faster
+    before, after = store.figures(example.name, "as written", example.source), store.figures(example.name, "faster", other.source)
     rows = [
-        ("cycles", span([row.cycle for row in example.rows]), span(cycles)), ("bits of registers", example.bits, faster.bits),
+        ("cycles", span([row.cycle for row in example.rows]), span(cycles)), ("bits of registers", example.bits, other.bits),
         *((name, *pair) for name, *pair in zip(("LUTs", "flip-flops", "MHz"), cells_of(before), cells_of(after))),
         ("calls a second for each LUT", *(rounded(calls_for_area(example, store, version)) for version in ("as written", "faster"))),
     ]
@@ -233,6 +229,25 @@ def index_block(examples, store):
     what = f"LUTs and DSP blocks are those on an {DSP_DEVICE_NAME}, which has {DSP_BLOCKS} such blocks, of the circuits that take any."
     time = "The span is the cycle in which a circuit would be done if no call waited; with a constant time the cycle tells nothing of these arguments."
     return lines + [f"{tools_line(store)} {what} {time}"]
+
+
+def explored_block():
+    """The table of what safl-explore finds, with a row for each circuit for which it finds something."""
+    every, rows, without, left = faster.found(), [], [], []
+    for name in (name for names in SUBJECTS.values() for name in names):
+        kept = every.get(name)
+        best = kept and faster.best(kept)
+        if best:
+            pairs = [f"{point[figure]:,}" for figure in ("cycles", "luts") for point in (kept["points"][0], best)]
+            rows.append((f"[{name}]({name}/README.md)", faster.in_words(best["steps"]), *pairs, f"{best['calls for area']:.2f}"))
+        else:
+            (without if kept else left).append(name)
+    head = ("circuit", "steps", "cycles of all runs", "after", "LUTs", "after", "calls a cycle for each LUT, times")
+    return table(head, rows) + ["", f"Nothing better was found for {listed(without)}."] + [f"Not looked at: {listed(left)}."] * bool(left)
+
+
+def listed(names):
+    return f"{', '.join(names[:-1])} and {names[-1]}" if len(names) > 1 else "".join(names)
 
 
 def picture_of(example, name):
