@@ -10,10 +10,8 @@ from files import TOP, read
 sys.path.insert(0, f"{TOP}/scripts/oracle")
 import aiger  # noqa: E402
 import language  # noqa: E402
-import printing  # noqa: E402
-import reshape  # noqa: E402
 from circuit import Circuit, meaning  # noqa: E402
-from gallery import FASTER, PAGES, SHOWN  # noqa: E402
+from gallery import PAGES, SHOWN  # noqa: E402
 
 CALLS_MAX = 1_000_000
 CASE_ROWS, CASE_CYCLES = 3, 400  # the runs that are cases of safl_cases: so many of each page, with so many cycles at most
@@ -69,6 +67,7 @@ class Example:
         self.folder = f"{TOP}/examples/{name}"
         self.source_name = f"examples/{name}/{name}.safl"
         self.path, self.page = f"{TOP}/{self.source_name}", f"{self.folder}/README.md"
+        self.faster_path = f"{TOP}/examples/faster/{name}_faster.safl"
         self.source = read(self.path)
         try:
             self.program = language.accept(self.source.encode())
@@ -154,14 +153,10 @@ class Example:
 
     @cached_property
     def faster(self):
-        """A faster source, if scripts/gallery.py says how it is made, and the cycle of done of each run."""
-        if self.name not in FASTER:
+        """The faster source, if there is one (scripts/faster.py), and the cycle of done of each run."""
+        if not os.path.exists(self.faster_path):
             return None
-        names, joins = FASTER[self.name]
-        text = without_uncalled(written_out(self.source, names))
-        if joins:
-            text = re.sub(r"\bfun main\b", "and main", text)
-        found = variant("faster", text)
+        found = variant("faster", read(self.faster_path))
         return found, self.cycles_of(found)
 
     def cycles_of(self, other):
@@ -194,24 +189,3 @@ class Example:
         """The same by hand, if it is there."""
         path = f"{TOP}/examples/by_hand/{self.name}.v"
         return path if os.path.exists(path) else None
-
-
-def written_out(text, names):
-    """The source with all calls of these functions replaced by their bodies, as `safl reshape --unfold` does it."""
-    while True:
-        sites = reshape.Sites(language.Parser(text.encode()).program())
-        found = next((k for k in range(1, len(sites.sites)) if sites.callee(k).name in names), None)
-        if found is None:
-            return text
-        text = reshape.reshaped(text.encode(), "unfold", found).decode()
-
-
-def without_uncalled(text):
-    """The source without the functions that nothing calls any more."""
-    while True:
-        sites = reshape.Sites(language.Parser(text.encode()).program())
-        called = {sites.callee(k).group for k in range(1, len(sites.sites))} | {sites.functions[-1].group}
-        kept = [f for f in sites.functions if f.group in called]
-        if len(kept) == len(sites.functions):
-            return text
-        text = printing.text_of(kept)

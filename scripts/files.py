@@ -30,9 +30,9 @@ def written(folder, name, text):
 
 
 def examples():
-    """The names and files of the sources of examples/, but for those of by_hand, which are tuned forms of others."""
+    """The names and files of the sources of examples/, but for those of by_hand and faster, which are other forms of them."""
     paths = sorted(glob.glob(f"{TOP}/examples/*.safl") + glob.glob(f"{TOP}/examples/*/*.safl"))
-    return named(path for path in paths if os.path.basename(os.path.dirname(path)) != "by_hand")
+    return named(path for path in paths if os.path.basename(os.path.dirname(path)) not in ("by_hand", "faster"))
 
 
 def tuned():

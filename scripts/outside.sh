@@ -1,15 +1,16 @@
 #!/bin/bash
-# Compares the Verilog that the program writes for all examples with what other tools make of it: Icarus Verilog and Verilator have
-# to print the same result in the same cycle, for programs made at random too (scripts/verilator.py), Yosys has to synthesise it, and ABC has to find
-# its bit-level circuit equal to what Yosys makes of it (scripts/bits.py). The same goes for what `build --opt` writes. The cells
-# of those that were also written by hand are printed (scripts/cells.py). ABC also has to find the products right that Yosys is
-# told to make for this comparison. One session has to draw the picture of examples/mandelbrot (scripts/picture.py). Traces have to be those of Icarus
-# Verilog, for both files, and vcd2fst has to read them; the pictures of waveforms have to be drawn from them. The circuits of
-# examples/by_hand have to give the same results, and so have the tuned sources there (scripts/by_hand.py). A refusal has to come on standard error. The arguments of the gallery are
-# those of scripts/examples.py, which also looks at its pages and cases. The whole designs there have benches of their own (make test). What
-# safl-time prints has to be what the runs show (scripts/timing.py, scripts/same_time.py). The edges of tools/ are tried by
-# scripts/tools_edges.py, which is not run here. The last line says how much was compared, and what is
-# missing. The program is built if it is missing (SAFL names another one).
+# Compares the Verilog that the program writes for all examples with what other tools make of it: Icarus Verilog and Verilator
+# have to print the same result in the same cycle, for programs made at random too (scripts/verilator.py), Yosys has to
+# synthesise it, and ABC has to find its bit-level circuit equal to what Yosys makes of it (scripts/bits.py). The same goes for
+# what `build --opt` writes. The cells of those that were also written by hand are printed (scripts/cells.py). ABC also has to
+# find the products right that Yosys is told to make for this comparison. One session has to draw the picture of
+# examples/mandelbrot (scripts/picture.py). Traces have to be those of Icarus Verilog, for both files, and vcd2fst has to read
+# them; the pictures of waveforms have to be drawn from them. The circuits of examples/by_hand have to give the same results,
+# and so have the tuned sources there (scripts/by_hand.py). A refusal has to come on standard error. The arguments of the
+# gallery are those of scripts/examples.py, which also looks at its pages and cases. The whole designs there have benches of
+# their own (make test). What safl-time prints has to be what the runs show (scripts/timing.py, scripts/same_time.py). The tools
+# have tests of their own (scripts/tools_*.py), of what they do and of their edges. The last line says how much was compared,
+# and what is missing. The program is built if it is missing (SAFL names another one).
 set -u
 cd "$(dirname "$0")/.." || exit 1
 program=$(realpath -m "${SAFL:-crates/safl/out/safl}")
@@ -129,7 +130,7 @@ tune() {
 
 # Compares the files of a source, which are built if the last call was for another one, with a limit of cycles and arguments.
 compare() {
-    local source=$1 limit=$2 wanted option hand name
+    local source=$1 limit=$2 wanted option hand name other
     shift 2
     rows=$((rows + 1))
     if [ "$source" != "$last" ]; then
@@ -142,9 +143,9 @@ compare() {
     done
     [ ${#dump[@]} -eq 0 ] || trace "$source" "$limit" "$@"
     name=$(basename "$source" .safl)
-    if [ -f "examples/by_hand/${name}_tuned.safl" ]; then
-        tune "examples/by_hand/${name}_tuned.safl" "${wanted%%$'\n'*}" "$limit" "$@"
-    fi
+    for other in "examples/by_hand/${name}_tuned.safl" "examples/faster/${name}_faster.safl"; do
+        [ ! -f "$other" ] || tune "$other" "${wanted%%$'\n'*}" "$limit" "$@"
+    done
     has iverilog && has python3 || return
     hand=examples/by_hand/$name.v
     if [ -f "$hand" ]; then
@@ -222,7 +223,6 @@ fi
 if has python3; then
     SAFL=$program python3 scripts/tutorial.py || say "a command of the documents prints something else"
     for script in scripts/tools_*.py; do
-        [ "$script" = scripts/tools_edges.py ] && continue
         SAFL=$program python3 "$script" || say "$script finds a difference"
     done
     timer=$(realpath -m "${SAFL_TIME:-crates/safl_time/out/safl_time}")

@@ -3,10 +3,12 @@
 specs/ with the lines of its reached definitions (with the comments above them), the lines of the whole file, and the names.
 A row stands below those of the files that it reads, and else the lower crate stands first. A second table has how much each
 clause of `run` reaches, and a third how much of `ends` and `follows` is about each command alone, with the refusal of all
-other words. With --of WORDS it prints the first table for what these clauses alone reach.
+other words. With --of WORDS it prints the first table for what these clauses alone reach. With --twice it prints the names that
+more than one of these definitions has, with their files: a reader should meet few of them.
 
 A definition reaches each definition whose name stands in it; the name of a case stands for its list of cases. Types that the
 code declares and definitions of the standard library are not listed."""
+import collections
 import dataclasses
 import functools
 import pathlib
@@ -229,6 +231,16 @@ def tables():
             table_of_sums(files, "command", by_command))
 
 
+def twice():
+    """The names that more than one definition has which `run` reaches, with the files of these."""
+    files = definitions()
+    places = collections.defaultdict(list)
+    for (crate, module), items in reached(files, clauses(), COMMANDS).items():
+        for name in names_in(files[crate, module], items):
+            places[name].append(f"{crate} {module}")
+    return {name: sorted(found) for name, found in sorted(places.items()) if len(found) > 1}
+
+
 def in_words():
     """How many definitions these are, with how many lines in how many files, as README.md says it."""
     return "{} definitions with {} lines in {} files".format(*re.search(r"^\| all clauses \| (.*) \| (.*) \| (.*) \|$", tables()[1], re.M).groups())
@@ -247,11 +259,14 @@ def put():
 def main():
     reader = parser(__doc__)
     reader.add_argument("--of", nargs="+", choices=clauses(), metavar="CLAUSE", help="print what these clauses of `run` alone reach")
+    reader.add_argument("--twice", action="store_true", help="print the names that more than one of the definitions has")
     reader.add_argument("--write", action="store_true", help="put the tables into docs/TRUSTED.md and their sum into README.md")
     given = reader.parse_args()
     if given.of:
         files = definitions()
         print(table_of_files(files, reached(files, given.of, COMMANDS)), end="")
+    elif given.twice:
+        print("".join(f"{name}: {', '.join(found)}\n" for name, found in twice().items()) + f"{len(twice())} names")
     elif given.write:
         put()
     else:
