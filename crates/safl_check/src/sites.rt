@@ -5,7 +5,7 @@ ghost use Rattle.safl_word.specs.Limits.{functions_max};
 ghost use Rattle.safl_term.specs.Tree.{shown_term, shown_terms};
 ghost use Rattle.safl_typing.specs.Forms.{all_sites, sites_of, sites_of_all, shown_function};
 
-use safl_term::{Function, Site, Term};
+use safl_term::{Function, Node, Site, Term, top};
 use safl_word::NoMemory;
 use std::alloc::Global;
 
@@ -26,27 +26,24 @@ pub fn sites_of(alloc: Global, functions: &[Function]) -> Result<Vec<Site>, NoMe
 fn push_sites(sites: &mut Vec<Site>, caller: u32, term: &Term) -> Result<(), NoMemory>
     ensures { OnOk result (sites.new.items ≡ sites.old.items ++ sites_of caller (shown_term term.now)) }
 {
-    match term {
-        Term::Const(_) => Ok(()),
-        Term::Var(_) => Ok(()),
-        Term::If(condition, first, second) => {
+    match top(term) {
+        Node::Const(_) => Ok(()),
+        Node::Var(_) => Ok(()),
+        Node::If(condition, first, second) => {
             push_sites(sites, caller, condition)?;
             push_sites(sites, caller, first)?;
             push_sites(sites, caller, second)
         }
-        Term::Let(_, bound, body) => {
+        Node::Let(_, bound, body) => {
             push_all(sites, caller, bound)?;
             push_sites(sites, caller, body)
         }
-        Term::Op(_, operands) => push_all(sites, caller, operands),
-        Term::Call(callee, _, arguments) => {
-            sites.push(Site {
-                caller,
-                callee: *callee,
-            })?;
+        Node::Op(_, operands) => push_all(sites, caller, operands),
+        Node::Call(callee, _, arguments) => {
+            sites.push(Site { caller, callee })?;
             push_all(sites, caller, arguments)
         }
-        Term::Loop(_, arguments) => push_all(sites, caller, arguments),
+        Node::Loop(_, arguments) => push_all(sites, caller, arguments),
     }
 }
 

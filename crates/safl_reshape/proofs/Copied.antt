@@ -5,7 +5,7 @@ use Rattle.std.proofs.lemmas.Option.{same_Some}
 use Rattle.safl_term.specs.Program.{Program}
 use Rattle.safl_term.specs.Laws.{OneEvaluation}
 use Rattle.safl_tree.specs.Tree.{Definition}
-use Rattle.safl_typing.specs.Heads.{Head, sites, unit_of, params_of, heads}
+use Rattle.safl_typing.specs.Heads.{Head, unit_of, params_of, heads}
 use Rattle.safl_typing.specs.Typing.{Differ}
 use Rattle.safl_typing.specs.Forms.{FunctionForm, Form, all_sites, function_names, AreFunctionsOf, IsFormOf}
 use Rattle.safl_typing.proofs.Walks.{functions_rise}

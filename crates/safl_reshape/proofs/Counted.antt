@@ -45,41 +45,41 @@ adds_more a b c s n t m p q = record { sites = saturated_more a.sites b.sites c.
 pub adds_same : (a b : Counts) (s n t m : ℕ) → Adds a b s n → t ≡ s → m ≡ n → Adds a b t m
 adds_same a b s n t m p e f = record { sites = omega (arith, p.sites, e); nodes = omega (arith, p.nodes, f) }
 
-module _ (k : Known) (p : ℕ) (n : Tree) (a b : Counts) (itself : Adds a b 0 1) where
-  pub let_adds : (xs : List Bound) (t : Tree) (c d : Counts) → n ≡ source.Let p (binds_of xs) t → Adds b c (sites_bounds k xs) (nodes_bounds xs) →
+module _ (k : Known) {p : ℕ} {n : Tree} {a b : Counts} (itself : Adds a b 0 1) where
+  pub let_adds : (xs : List Bound) {t : Tree} {c d : Counts} → n ≡ source.Let p (binds_of xs) t → Adds b c (sites_bounds k xs) (nodes_bounds xs) →
       Adds c d (sites_in_tree k t) (nodes (rewritten t)) → Adds a d (sites_in_tree k n) (nodes (rewritten n))
-  let_adds xs t c d is f g =
+  let_adds xs {t} {c} {d} is f g =
       let r = adds_more a c d _ _ _ _ (adds_more a b c _ _ _ _ itself f) g in
       let s : sites_in_tree k n ≡ sites_bound k (rewritten_binds (binds_of xs)) + sites_in_tree k t = ap (sites_in_tree k) is in
       let m : nodes (rewritten n) ≡ 1 + (nodes_bound (rewritten_binds (binds_of xs)) + nodes (rewritten t)) = ap (λ (u : Tree). nodes (rewritten u)) is in
       adds_same a d _ _ _ _ r (omega (arith, s, bounds_sites k xs)) (omega (arith, m, bounds_nodes xs))
 
-  pub if_adds : (v t u : Tree) (c d e : Counts) → n ≡ source.If p v t u → Adds b c (sites_in_tree k v) (nodes (rewritten v)) → Adds c d (sites_in_tree k t)
+  pub if_adds : {v t u : Tree} {c d e : Counts} → n ≡ source.If p v t u → Adds b c (sites_in_tree k v) (nodes (rewritten v)) → Adds c d (sites_in_tree k t)
       (nodes (rewritten t)) → Adds d e (sites_in_tree k u) (nodes (rewritten u)) → Adds a e (sites_in_tree k n) (nodes (rewritten n))
-  if_adds v t u c d e is f g h =
+  if_adds {v} {t} {u} {c} {d} {e} is f g h =
       let r = adds_more a d e _ _ _ _ (adds_more a c d _ _ _ _ (adds_more a b c _ _ _ _ itself f) g) h in
       let s : sites_in_tree k n ≡ sites_in_tree k v + (sites_in_tree k t + sites_in_tree k u) = ap (sites_in_tree k) is in
       let m : nodes (rewritten n) ≡ 1 + (nodes (rewritten v) + (nodes (rewritten t) + nodes (rewritten u))) = ap (λ (x : Tree). nodes (rewritten x)) is in
       adds_same a e _ _ _ _ r (omega (arith, s)) (omega (arith, m))
 
-  pub case_adds : (v : Tree) (xs : List Labelled) (t : Tree) (c d e : Counts) → n ≡ source.Cases p v (arms_of xs t) → Adds b c (sites_in_tree k v)
+  pub case_adds : {v : Tree} (xs : List Labelled) (t : Tree) {c d e : Counts} → n ≡ source.Cases p v (arms_of xs t) → Adds b c (sites_in_tree k v)
       (nodes (rewritten v)) → Adds c d (sites_labelled k xs) (nodes_labelled xs) → Adds d e (sites_in_tree k t) (nodes (rewritten t)) → Adds a e
       (sites_in_tree k n) (nodes (rewritten n))
-  case_adds v xs t c d e is f g h =
+  case_adds {v} xs t {c} {d} {e} is f g h =
       let r = adds_more a d e _ _ _ _ (adds_more a c d _ _ _ _ (adds_more a b c _ _ _ _ itself f) g) h in
       let s : sites_in_tree k n ≡ (sites_in_tree k v + 0) + sites k (rewritten_arms p (arms_of xs t)) = ap (sites_in_tree k) is in
       let m : nodes (rewritten n) ≡ 1 + ((nodes (rewritten v) + 0) + nodes (rewritten_arms p (arms_of xs t))) = ap (λ (u : Tree). nodes (rewritten u)) is in
       adds_same a e _ _ _ _ r (omega (arith, s, arms_sites k p xs t)) (omega (arith, m, arms_nodes p xs t))
 
-  pub op_adds : (o : Primitive) (xs : List Tree) (c : Counts) → n ≡ source.Op p o (trees_of xs) → Adds b c (sites_list k xs) (nodes_list xs) → Adds a c (sites_in_tree k n) (nodes (rewritten n))
-  op_adds o xs c is f =
+  pub op_adds : {o : Primitive} (xs : List Tree) {c : Counts} → n ≡ source.Op p o (trees_of xs) → Adds b c (sites_list k xs) (nodes_list xs) → Adds a c (sites_in_tree k n) (nodes (rewritten n))
+  op_adds {o} xs {c} is f =
       let s : sites_in_tree k n ≡ sites_in k (rewritten_all (trees_of xs)) = ap (sites_in_tree k) is in
       let m : nodes (rewritten n) ≡ 1 + nodes_in (rewritten_all (trees_of xs)) = ap (λ (u : Tree). nodes (rewritten u)) is in
       adds_same a c _ _ _ _ (adds_more a b c _ _ _ _ itself f) (omega (arith, s, list_sites k xs)) (omega (arith, m, list_nodes xs))
 
-  pub call_adds : (x : List ℕ) (xs : List Tree) (c d : Counts) (w : ℕ) → n ≡ source.Call p x (trees_of xs) → w ≡ is_site (callee k x) → Adds b c w 0 →
+  pub call_adds : {x : List ℕ} (xs : List Tree) {c d : Counts} {w : ℕ} → n ≡ source.Call p x (trees_of xs) → w ≡ is_site (callee k x) → Adds b c w 0 →
       Adds c d (sites_list k xs) (nodes_list xs) → Adds a d (sites_in_tree k n) (nodes (rewritten n))
-  call_adds x xs c d w is e f g =
+  call_adds {x} xs {c} {d} {w} is e f g =
       let r = adds_more a c d _ _ _ _ (adds_more a b c _ _ _ _ itself f) g in
       let s : sites_in_tree k n ≡ is_site (callee k x) + sites_in k (rewritten_all (trees_of xs)) = ap (sites_in_tree k) is in
       let m : nodes (rewritten n) ≡ 1 + nodes_in (rewritten_all (trees_of xs)) = ap (λ (u : Tree). nodes (rewritten u)) is in

@@ -25,7 +25,6 @@ pub mod Unplaced
 pub mod LevelsUnplaced
 pub mod Checkable
 pub mod Listed
-pub mod ShownNodes
 pub mod NextItems
 pub mod ChangedNodes
 pub mod ListsLeft

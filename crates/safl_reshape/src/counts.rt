@@ -7,7 +7,7 @@ ghost use Rattle.safl_reshape.specs.Changed.{sites_in_tree};
 ghost use Rattle.safl_reshape.specs.Counting.{Adds, nodes_list, nodes_bounds, nodes_labelled};
 ghost use Rattle.safl_reshape.specs.Lists.{sites_list, sites_bounds, sites_labelled};
 
-use safl_tree::{Arm, Bind, Expr, Node};
+use safl_tree::{Arm, Bind, Expr, Opened, top};
 use safl_typing::heads::{Heads, find_callee};
 use safl_typing::sites::sites_of_callee;
 
@@ -39,24 +39,24 @@ pub fn count(heads: &Heads, unit: u32, before: Counts, e: &Expr) -> Counts
     ensures { Adds before result (sites_in_tree (known heads.now unit) (shown_tree e.now)) (nodes (rewritten (shown_tree e.now))) }
 {
     let itself = before.plus(0, 1);
-    match &e.node {
-        Node::Num(_) | Node::Sized(..) | Node::Var(_) => itself,
-        Node::If(condition, first, second) => {
+    match top(e) {
+        Opened::Num(_) | Opened::Sized(..) | Opened::Var(_) => itself,
+        Opened::If(condition, first, second) => {
             let upto_condition = count(heads, unit, itself, condition);
             let upto_first = count(heads, unit, upto_condition, first);
             count(heads, unit, upto_first, second)
         }
-        Node::Let(binds, body) => {
+        Opened::Let(binds, body) => {
             let upto_binds = count_binds(heads, unit, itself, binds);
             count(heads, unit, upto_binds, body)
         }
-        Node::Case(value, arms, other) => {
+        Opened::Case(value, arms, other) => {
             let upto_value = count(heads, unit, itself, value);
             let upto_arms = count_arms(heads, unit, upto_value, arms);
             count(heads, unit, upto_arms, other)
         }
-        Node::Op(_, operands) => count_all(heads, unit, itself, operands),
-        Node::Call(name, arguments) => {
+        Opened::Op(_, operands) => count_all(heads, unit, itself, operands),
+        Opened::Call(name, arguments) => {
             let sites = sites_of_callee(find_callee(heads, unit, name));
             let called = itself.plus(sites, 0);
             count_all(heads, unit, called, arguments)

@@ -1,7 +1,6 @@
 -- Terms and answers.
 use Rattle.std.proofs.Common.{List, [], None, Option, Some, ap, arith, is_some, length, refl, suc, sym, true, ℕ, ◌∙◌, ◌∷◌, ◌≡◌, ◌≤◌}
 use Rattle.std.proofs.lemmas.Bool.{false≢true}
-use Rattle.safl_word.specs.declared.primitive.Primitive.{Primitive}
 use Rattle.safl_word.specs.Words.{Word}
 use Rattle.safl_term.specs.Readiness.{Answer, LoopTo, NotYet, Ready, loop_to, ready_from, word_of}
 use Rattle.safl_term.specs.Terms.{Call, Const, If, Let, Loop, Op, Term, Terms, Var}
@@ -22,14 +21,8 @@ pub loop_word : (h : ℕ) (o : Option (List Word)) → None ≡ word_of (loop_to
 loop_word h None = refl
 loop_word h (Some vs) = refl
 
-pub if_by : {t c a b d x y : Term} → t ≡ If c a b → d ≡ c → x ≡ a → y ≡ b → t ≡ If d x y
-if_by {t} {c} {a} {b} {d} {x} {y} e f g h = e ∙ (ap (λ z. If z a b) (sym f) ∙ (ap (λ z. If d z b) (sym g) ∙ ap (If d x) (sym h)))
-
 pub let_by : {t b d : Term} {ts us : Terms} → t ≡ Let ts b → us ≡ ts → d ≡ b → t ≡ Let us d
 let_by {t} {b} {d} {ts} {us} e f g = e ∙ (ap (λ z. Let z b) (sym f) ∙ ap (Let us) (sym g))
-
-pub op_by : {t : Term} {ts us : Terms} (p : Primitive) → t ≡ Op p ts → us ≡ ts → t ≡ Op p us
-op_by p e f = e ∙ ap (Op p) (sym f)
 
 pub ready_word : (q : Answer) → is_some (word_of q) ≡ true → (v : Word) × (q ≡ Ready v)
 ready_word (Ready v) e = (v, refl)

@@ -1,21 +1,12 @@
 -- What is written one after the other.
-use Rattle.std.proofs.Common.{◌≡◌, ℕ, ◌+◌, ◌-◌, ◌<◌, ◌≤◌, List, [], ◌∷◌, ◌++◌, length, take, drop, get_or, Vec, Box, Global, refl, sym, ap, subst, ◌∙◌, append_assoc, Result, Ok, Err, OnOk, arith}
+use Rattle.std.proofs.Common.{◌≡◌, ℕ, ◌+◌, ◌-◌, ◌<◌, ◌≤◌, List, [], ◌∷◌, ◌++◌, length, take, drop, get_or, refl, sym, ap, subst, ◌∙◌, append_assoc, Result, Ok, Err, OnOk, arith}
 use Rattle.std.proofs.lemmas.List.{append-nil, drop_all, take_all}
 use Rattle.safl_word.specs.declared.token.Key.TheVariants as keys
 use Rattle.safl_word.specs.declared.token.Sym.TheVariants as syms
-use Rattle.safl_word.specs.declared.primitive.Primitive.{Primitive}
 use Rattle.safl_word.proofs.Lists.{drop_read}
-use Rattle.safl_tree.specs.declared.tree.Expr.{Expr}
-use Rattle.safl_tree.specs.declared.tree.Bind.{Bind}
-use Rattle.safl_tree.specs.declared.tree.Arm.{Arm}
-use Rattle.safl_tree.specs.declared.tree.Node.{Node}
-use Rattle.safl_tree.specs.declared.tree.Node.TheVariants as nodes
-use Rattle.safl_tree.specs.declared.tree.Node.TheVariants.{Case}
-use Rattle.safl_tree.specs.Tree.{Tree, If, Let, Cases, Op, Call, Labelled, trees_of, binds_of, arms_of}
-use Rattle.safl_tree.specs.Shown.{shown_node, shown_tree, shown_trees, shown_bounds, shown_labelled}
+use Rattle.safl_tree.specs.Tree.{Tree, Labelled, arms_of}
 use Rattle.safl_tree.specs.Printed
 use Rattle.safl_tree.specs.Printed.{PrintedToken, spaced, separated, words, arm_words, labelled_words, Writes}
-use Rattle.safl_tree.proofs.ShownTrees.{op_shows, call_shows, let_shows, case_shows}
 
 pub spaced_append : (u v : List PrintedToken) → spaced (u ++ v) ≡ spaced u ++ spaced v
 spaced_append [] v = refl
@@ -114,31 +105,3 @@ pub case_split : (e t : Tree) (arms : List Labelled) → words e ++
 case_split e t arms = ap (λ (l : List PrintedToken). words e ++ (Printed.sym syms.OpenBrace ∷ l))
     (sym (append_assoc (labelled_words arms) (Printed.key keys.Default ∷ (Printed.sym syms.Arrow ∷ words t)) (Printed.sym syms.CloseBrace ∷ [])) ∙ ap
     (λ (l : List PrintedToken). l ++ (Printed.sym syms.CloseBrace ∷ [])) (sym (arms_split arms t)))
-
--- ---- the words of a node
-
-module _ (n : Node) (p : ℕ) where
-  pub choice_words : (c a b : Box Expr Global) (x y z : Expr) → n ≡ nodes.If c a b → x ≡ c.value → y ≡ a.value → z ≡ b.value → words
-      (If 0 (shown_tree x) (shown_tree y) (shown_tree z)) ≡ words (shown_node n p)
-  choice_words c a b x y z is i j k = ap (λ (e : Expr). words (If 0 (shown_tree e) (shown_tree y) (shown_tree z))) i ∙ ap
-      (λ (e : Expr). words (If 0 (shown_tree c.value) (shown_tree e) (shown_tree z))) j ∙ ap
-      (λ (e : Expr). words (If 0 (shown_tree c.value) (shown_tree a.value) (shown_tree e))) k ∙ ap (λ (m : Node). words (shown_node m p)) (sym is)
-
-  pub let_words : (v : Vec Bind Global) (b : Box Expr Global) (bs : List Bind) (x : Expr) → n ≡ nodes.Let v b → bs ≡ v.items → x ≡ b.value → words
-      (Let 0 (binds_of (shown_bounds bs)) (shown_tree x)) ≡ words (shown_node n p)
-  let_words v b bs x is i j = ap (λ (l : List Bind). words (Let 0 (binds_of (shown_bounds l)) (shown_tree x))) i ∙ ap
-      (λ (e : Expr). words (Let 0 (binds_of (shown_bounds v.items)) (shown_tree e))) j ∙ ap words (sym (let_shows v b p)) ∙ ap
-      (λ (m : Node). words (shown_node m p)) (sym is)
-
-  pub case_words : (s : Box Expr Global) (v : Vec Arm Global) (o : Box Expr Global) (x : Expr) (arms : List Arm) (y : Expr) → n ≡ Case s v o → x ≡
-      s.value → arms ≡ v.items → y ≡ o.value → words (Cases 0 (shown_tree x) (arms_of (shown_labelled arms) (shown_tree y))) ≡ words (shown_node n p)
-  case_words s v o x arms y is i j k = ap (λ (e : Expr). words (Cases 0 (shown_tree e) (arms_of (shown_labelled arms) (shown_tree y)))) i ∙ ap
-      (λ (l : List Arm). words (Cases 0 (shown_tree s.value) (arms_of (shown_labelled l) (shown_tree y)))) j ∙ ap
-      (λ (e : Expr). words (Cases 0 (shown_tree s.value) (arms_of (shown_labelled v.items) (shown_tree e)))) k ∙ ap words (sym (case_shows s v o p)) ∙
-      ap (λ (m : Node). words (shown_node m p)) (sym is)
-
-  pub op_words : (o : Primitive) (v : Vec Expr Global) (es : List Expr) → n ≡ nodes.Op o v → es ≡ v.items → words (Op 0 o (trees_of (shown_trees es))) ≡ words (shown_node n p)
-  op_words o v es is i = ap (λ (l : List Expr). words (Op 0 o (trees_of (shown_trees l)))) i ∙ ap words (sym (op_shows o v p)) ∙ ap (λ (m : Node). words (shown_node m p)) (sym is)
-
-  pub call_words : (f : List ℕ) (v : Vec Expr Global) (es : List Expr) → n ≡ nodes.Call f v → es ≡ v.items → words (Call 0 f (trees_of (shown_trees es))) ≡ words (shown_node n p)
-  call_words f v es is i = ap (λ (l : List Expr). words (Call 0 f (trees_of (shown_trees l)))) i ∙ ap words (sym (call_shows f v p)) ∙ ap (λ (m : Node). words (shown_node m p)) (sym is)

@@ -1,7 +1,8 @@
 //! What stands at the top of an expression, with its parts.
 
 ghost use Rattle.std.specs.Prelude.{◌≡◌};
-ghost use Rattle.safl_tree.specs.Opened.{shown_opened};
+ghost use Rattle.safl_tree.specs.Opened.{shown_opened, AreBelow};
+ghost use Rattle.safl_tree.specs.declared.tree.Expr.{size-Expr};
 ghost use Rattle.safl_tree.specs.Shown.{shown_tree};
 
 use crate::name::Name;
@@ -23,7 +24,8 @@ pub enum Opened<'a> {
 
 /// What stands at the top of an expression.
 pub fn top(e: &Expr) -> Opened<'_>
-    ensures { shown_tree e.now ≡ shown_opened result e.now.place }
+    ensures shown { shown_tree e.now ≡ shown_opened result e.now.place }
+    ensures below { AreBelow (size-Expr e.now) result }
 {
     match &e.node {
         Node::Num(value) => Opened::Num(*value),

@@ -10,7 +10,7 @@ ghost use Rattle.safl_word.specs.declared.primitive.Primitive.TheVariants as pri
 
 use crate::precedence::{layers_of, left_context, right_context};
 use crate::print_words::{push_key, push_name, push_number, push_sized, push_sym, symbol_of};
-use crate::{Arm, Bind, Expr, Name, Node};
+use crate::{Arm, Bind, Expr, Name, Opened, top};
 use safl_word::{Key, NoMemory, Primitive, Raw, Sym};
 
 /// Appends an expression without parentheses around it.
@@ -18,11 +18,11 @@ use safl_word::{Key, NoMemory, Primitive, Raw, Sym};
 pub(crate) fn push_expr(e: &Expr, out: &mut Vec<u8>) -> Result<(), NoMemory>
     ensures { OnOk result (Writes out.old.items out.new.items (words (shown_tree e.now))) }
 {
-    match &e.node {
-        Node::Num(n) => push_number(*n, out),
-        Node::Sized(w, n) => push_sized(*w, *n, out),
-        Node::Var(x) => push_name(x, out),
-        Node::If(c, a, b) => {
+    match top(e) {
+        Opened::Num(n) => push_number(n, out),
+        Opened::Sized(w, n) => push_sized(w, n, out),
+        Opened::Var(x) => push_name(x, out),
+        Opened::If(c, a, b) => {
             push_key(Key::If, out)?;
             push_expr(c, out)?;
             push_key(Key::Then, out)?;
@@ -30,13 +30,13 @@ pub(crate) fn push_expr(e: &Expr, out: &mut Vec<u8>) -> Result<(), NoMemory>
             push_key(Key::Else, out)?;
             push_expr(b, out)
         }
-        Node::Let(bs, body) => {
+        Opened::Let(bs, body) => {
             push_key(Key::Let, out)?;
             push_bindings(bs, out)?;
             push_key(Key::In, out)?;
             push_expr(body, out)
         }
-        Node::Case(scrutinee, arms, default) => {
+        Opened::Case(scrutinee, arms, default) => {
             push_key(Key::Case, out)?;
             push_expr(scrutinee, out)?;
             push_sym(Sym::OpenBrace, out)?;
@@ -46,8 +46,8 @@ pub(crate) fn push_expr(e: &Expr, out: &mut Vec<u8>) -> Result<(), NoMemory>
             push_expr(default, out)?;
             push_sym(Sym::CloseBrace, out)
         }
-        Node::Op(p, es) => push_operation(*p, es, out),
-        Node::Call(f, es) => push_call(f, es, out),
+        Opened::Op(p, es) => push_operation(p, es, out),
+        Opened::Call(f, es) => push_call(f, es, out),
     }
 }
 

@@ -1,22 +1,20 @@
 -- Rewriting lists of expressions, one by one.
 use Rattle.std.proofs.lemmas.Option.{slice_get_read}
 use Rattle.std.proofs.Common.{◌≡◌, ℕ, zero, suc, ◌+◌, ◌-◌, ◌<◌, ◌≤◌, arith, drop, get_or, drop-cons, List, [], ◌∷◌, ◌++◌, length, take, Some, None}
-use Rattle.std.proofs.Common.{slice_get, Vec, Box, Global, refl, sym, ap, ◌∙◌, add-one}
+use Rattle.std.proofs.Common.{slice_get, refl, sym, ap, ◌∙◌, add-one}
 use Rattle.safl_word.specs.declared.primitive.Primitive.{Primitive}
 use Rattle.safl_tree.specs.declared.tree.Expr.{Expr}
 use Rattle.safl_tree.specs.declared.tree.Bind.{Bind}
 use Rattle.safl_tree.specs.declared.tree.Arm.{Arm}
-use Rattle.safl_tree.specs.declared.tree.Node.{Node}
-use Rattle.safl_tree.specs.declared.tree.Node.TheVariants as nodes
-use Rattle.safl_tree.specs.declared.tree.Node.TheVariants.{Case}
-use Rattle.safl_tree.specs.Tree.{Tree, trees_of, binds_of, arms_of, place_of}
-use Rattle.safl_tree.specs.Shown.{shown_tree, shown_node, shown_trees, shown_bounds, shown_labelled}
+use Rattle.safl_tree.specs.Tree as source
+use Rattle.safl_tree.specs.Tree.{Tree, Trees, Binds, Arms, trees_of, binds_of, arms_of, place_of}
+use Rattle.safl_tree.specs.Shown.{shown_tree, shown_trees, shown_bounds, shown_labelled}
 use Rattle.safl_typing.specs.declared.expression.Bound.{Bound}
 use Rattle.safl_typing.specs.declared.expression.Expression as code
 use Rattle.safl_typing.specs.Rewriting.{Expression, If, Let, Op, Call, Expressions, no_expression, an_expression, Bindings, no_binding, a_binding}
 use Rattle.safl_typing.specs.Rewriting.{rewritten, rewritten_all, rewritten_binds, rewritten_arms, scrutinee, test_at}
 use Rattle.safl_typing.specs.Plain.{shown_expression, shown_expressions, shown_bindings}
-use Rattle.safl_tree.proofs.ShownTrees.{op_shows, call_shows, let_shows, case_shows, shown_place}
+use Rattle.safl_tree.proofs.ShownTrees.{shown_place}
 
 -- one more at the end
 abbrev pub more : Expressions → Expression → Expressions
@@ -64,38 +62,21 @@ binds_more bs i b h = ap (λ (k : ℕ). rewritten_binds (binds_of (shown_bounds 
 
 -- ---- the kinds of expressions that have lists
 
-pub let_rewrites : (n : Node) (p : ℕ) (binds : Vec Bind Global) (body : Box Expr Global) (bs : List Bound) (b : code.Expression) (xs : List Bind) (e : Expr)
-    → n ≡ nodes.Let binds body → xs ≡ binds.items → e ≡ body.value → shown_bindings bs ≡ rewritten_binds (binds_of (shown_bounds xs)) → shown_expression b ≡ rewritten (shown_tree e)
-    → Let p (shown_bindings bs) (shown_expression b) ≡ rewritten (shown_node n p)
-let_rewrites n p binds body bs b xs e is x v hs h =
-    let k : shown_bindings bs ≡ rewritten_binds (binds_of (shown_bounds binds.items)) = hs ∙ ap (λ (l : List Bind). rewritten_binds (binds_of (shown_bounds l))) x in
-    let w : shown_expression b ≡ rewritten (shown_tree body.value) = h ∙ ap (λ (z : Expr). rewritten (shown_tree z)) v in
-    ap (λ (z : Bindings). Let p z (shown_expression b)) k ∙ ap (λ (z : Expression). Let p (rewritten_binds (binds_of (shown_bounds binds.items))) z) w
-    ∙ sym (ap (λ (z : Node). rewritten (shown_node z p)) is ∙ ap rewritten (let_shows binds body p))
+module _ {t : Tree} (p : ℕ) where
+  pub let_rewrites : {bs : Binds} {b : Tree} {xs : Bindings} {x : Expression} → t ≡ source.Let p bs b → xs ≡ rewritten_binds bs → x ≡ rewritten b → Let p xs x ≡ rewritten t
+  let_rewrites {bs} {b} {xs} {x} is h k = ap (λ (z : Bindings). Let p z x) h ∙ ap (Let p (rewritten_binds bs)) k ∙ sym (ap rewritten is)
 
-pub case_rewrites : (n : Node) (p : ℕ) (looked_at : Box Expr Global) (arms : Vec Arm Global) (other : Box Expr Global) (v b : code.Expression) (xs : List Arm) (e : Expr)
-    → n ≡ Case looked_at arms other → xs ≡ arms.items → e ≡ looked_at.value → shown_expression v ≡ rewritten (shown_tree e) → shown_expression b ≡
-    rewritten_arms p (arms_of (shown_labelled xs) (shown_tree other.value))
-    → Let p (a_binding p scrutinee None (shown_expression v) no_binding) (shown_expression b) ≡ rewritten (shown_node n p)
-case_rewrites n p looked_at arms other v b xs e is x y h k =
-    let w : shown_expression v ≡ rewritten (shown_tree looked_at.value) = h ∙ ap (λ (z : Expr). rewritten (shown_tree z)) y in
-    let g : shown_expression b ≡ rewritten_arms p (arms_of (shown_labelled arms.items) (shown_tree other.value)) = k ∙ ap
-    (λ (l : List Arm). rewritten_arms p (arms_of (shown_labelled l) (shown_tree other.value))) x in
-    ap (λ (z : Expression). Let p (a_binding p scrutinee None z no_binding) (shown_expression b)) w ∙ ap
-    (λ (z : Expression). Let p (a_binding p scrutinee None (rewritten (shown_tree looked_at.value)) no_binding) z) g
-    ∙ sym (ap (λ (z : Node). rewritten (shown_node z p)) is ∙ ap rewritten (case_shows looked_at arms other p))
+  pub case_rewrites : {e : Tree} {arms : Arms} {v b : Expression} → t ≡ source.Cases p e arms → v ≡ rewritten e → b ≡ rewritten_arms p arms
+      → Let p (a_binding p scrutinee None v no_binding) b ≡ rewritten t
+  case_rewrites {e} {arms} {v} {b} is h k =
+      ap (λ (z : Expression). Let p (a_binding p scrutinee None z no_binding) b) h
+      ∙ ap (Let p (a_binding p scrutinee None (rewritten e) no_binding)) k ∙ sym (ap rewritten is)
 
-pub op_rewrites : (n : Node) (p : ℕ) (o : Primitive) (es : Vec Expr Global) (all : Vec code.Expression Global) (xs : List Expr)
-    → n ≡ nodes.Op o es → xs ≡ es.items → shown_expressions all.items ≡ rewritten_all (trees_of (shown_trees xs)) → Op p o (shown_expressions all.items) ≡ rewritten (shown_node n p)
-op_rewrites n p o es all xs is x h =
-    ap (Op p o) (h ∙ ap (λ (l : List Expr). rewritten_all (trees_of (shown_trees l))) x)
-    ∙ sym (ap (λ (z : Node). rewritten (shown_node z p)) is ∙ ap rewritten (op_shows o es p))
+  pub op_rewrites : {o : Primitive} {ts : Trees} {es : Expressions} → t ≡ source.Op p o ts → es ≡ rewritten_all ts → Op p o es ≡ rewritten t
+  op_rewrites {o} {ts} {es} is h = ap (Op p o) h ∙ sym (ap rewritten is)
 
-pub call_rewrites : (n : Node) (p : ℕ) (f g : List ℕ) (es : Vec Expr Global) (all : Vec code.Expression Global) (xs : List Expr)
-    → n ≡ nodes.Call f es → g ≡ f → xs ≡ es.items → shown_expressions all.items ≡ rewritten_all (trees_of (shown_trees xs)) → Call p g (shown_expressions all.items) ≡ rewritten (shown_node n p)
-call_rewrites n p f g es all xs is i x h =
-    ap (λ (z : List ℕ). Call p z (shown_expressions all.items)) i ∙ ap (Call p f) (h ∙ ap (λ (l : List Expr). rewritten_all (trees_of (shown_trees l))) x)
-    ∙ sym (ap (λ (z : Node). rewritten (shown_node z p)) is ∙ ap rewritten (call_shows f es p))
+  pub call_rewrites : {f g : List ℕ} {ts : Trees} {es : Expressions} → t ≡ source.Call p f ts → g ≡ f → es ≡ rewritten_all ts → Call p g es ≡ rewritten t
+  call_rewrites {f} {g} {ts} {es} is i h = ap (λ (z : List ℕ). Call p z es) i ∙ ap (Call p f) h ∙ sym (ap rewritten is)
 
 pub arm_rewrites : (p : ℕ) (a : Arm) (label value rest : code.Expression) (arms : List Arm) (t : Tree)
     → shown_expression label ≡ rewritten (shown_tree a.label) → shown_expression value ≡ rewritten (shown_tree a.value) → shown_expression rest ≡ rewritten_arms p (arms_of (shown_labelled arms) t)

@@ -12,7 +12,7 @@ use crate::expression::{Bound, Expression};
 use crate::heads::{Heads, find_callee};
 use crate::make::{bind, call, choice, operate, scrutinise, test};
 use crate::sites::sites_of_callee;
-use safl_tree::{Arm, Bind, Expr, Name, Node};
+use safl_tree::{Arm, Bind, Expr, Name, Opened, top};
 use safl_word::NoMemory;
 use std::alloc::Global;
 
@@ -24,32 +24,32 @@ pub fn rewrite(alloc: Global, heads: &Heads, unit: u32, e: &Expr) -> Result<Expr
     ensures marked { IfOk result (IsMarked (known heads.now unit)) }
 {
     let place = e.place;
-    match &e.node {
-        Node::Num(n) => Ok(Expression::Number(place, *n)),
-        Node::Sized(width, n) => Ok(Expression::Sized(place, *width, *n)),
-        Node::Var(name) => Ok(Expression::Variable(place, copied(alloc, name)?)),
-        Node::If(condition, first, second) => {
+    match top(e) {
+        Opened::Num(n) => Ok(Expression::Number(place, n)),
+        Opened::Sized(width, n) => Ok(Expression::Sized(place, width, n)),
+        Opened::Var(name) => Ok(Expression::Variable(place, copied(alloc, name)?)),
+        Opened::If(condition, first, second) => {
             let condition = rewrite(alloc, heads, unit, condition)?;
             let first = rewrite(alloc, heads, unit, first)?;
             let second = rewrite(alloc, heads, unit, second)?;
             choice(alloc, place, condition, first, second)
         }
-        Node::Let(binds, body) => {
+        Opened::Let(binds, body) => {
             let bound = rewrite_binds(alloc, heads, unit, binds)?;
             let body = rewrite(alloc, heads, unit, body)?;
             bind(alloc, place, bound, body)
         }
-        Node::Case(scrutinee, arms, default) => {
+        Opened::Case(scrutinee, arms, default) => {
             let value = rewrite(alloc, heads, unit, scrutinee)?;
             let default = rewrite(alloc, heads, unit, default)?;
             let body = rewrite_arms(alloc, heads, unit, place, arms, default)?;
             scrutinise(alloc, place, value, body)
         }
-        Node::Op(operator, operands) => {
+        Opened::Op(operator, operands) => {
             let operands = rewrite_all(alloc, heads, unit, operands)?;
-            Ok(operate(place, *operator, operands))
+            Ok(operate(place, operator, operands))
         }
-        Node::Call(name, arguments) => {
+        Opened::Call(name, arguments) => {
             let arguments = rewrite_all(alloc, heads, unit, arguments)?;
             let own = sites_of_callee(find_callee(heads, unit, name));
             Ok(call(place, own, copied(alloc, name)?, arguments))

@@ -8,7 +8,6 @@ use Rattle.safl_typing.specs.PlainHeads.{known, site_of}
 use Rattle.safl_typing.proofs.HeadsByName.{site_plain}
 use Rattle.safl_reshape.specs.Changed.{sites_in_tree}
 use Rattle.safl_reshape.specs.Lists.{change_of, sites_bounds, sites_labelled}
-use Rattle.safl_reshape.proofs.ShownNodes.{shown_if, shown_let, shown_case, shown_op, shown_call}
 use Rattle.safl_reshape.proofs.ChangedNodes.{if_done, let_done, case_done, op_done, call_done, left_if, left_let, left_case, left_op, left_call}
 use Rattle.safl_reshape.proofs.ListsLeft.{list_more, bounds_more, arms_more, list_left, bounds_left, arms_left}
 use Rattle.safl_reshape.proofs.change.+changing.Goals as goal
@@ -16,108 +15,78 @@ use Rattle.safl_reshape.proofs.change.+changing.Goals as goal
 pub change-returns-in_ok-second-in-If-clause-tree : goal.change-returns-in_ok-second-in-If-clause-tree
 change-returns-in_ok-second-in-If-clause-tree t c =
     let K = known c.args.heads.now c.args.unit in
-    let s = shown_if c.args.e.now.node c.args.e.now.place c.in-If.condition c.in-If.first c.in-If.second
-    c.deref.result.now c.deref-in-If.result.now c.deref-in-If-2.result.now c.in-If.is c.deref.ensures c.deref-in-If.ensures c.deref-in-If-2.ensures in
+    let i = c.in-If in
     IfOk-weaker c.choose.result _ _ (λ x h k lo e.
     let v = c.in_ok-condition-in-If.ensures.tree k lo e in
-    let l : c.change.new.left ≡ suc k - (lo + sites_in_tree K (shown_tree c.deref.result.now)) = omega (arith, e, c.in_ok-condition-in-If.ensures.left) in
-    let a = c.in_ok-first-in-If.ensures.tree k (lo + sites_in_tree K (shown_tree c.deref.result.now)) l in
-    let m : c.change-in-If.new.left ≡ suc k - (lo + sites_in_tree K (shown_tree c.deref.result.now) + sites_in_tree K (shown_tree c.deref-in-If.result.now)) =
+    let l : c.change.new.left ≡ suc k - (lo + sites_in_tree K (shown_tree i.condition.now)) = omega (arith, e, c.in_ok-condition-in-If.ensures.left) in
+    let a = c.in_ok-first-in-If.ensures.tree k _ l in
+    let m : c.change-in-If.new.left ≡ suc k - (lo + sites_in_tree K (shown_tree i.condition.now) + sites_in_tree K (shown_tree i.first.now)) =
     omega (arith, l, c.in_ok-first-in-If.ensures.left) in
-    let b = c.in_ok-second-in-If.ensures.tree k (lo + sites_in_tree K (shown_tree c.deref.result.now) + sites_in_tree K (shown_tree c.deref-in-If.result.now)) m in
-    if_done K (change_of k c.args.changes.now) lo c.args.e.now.place (shown_tree c.deref.result.now) (shown_tree c.in_ok-condition-in-If.condition) (shown_tree c.deref-in-If.result.now)
-    (shown_tree c.in_ok-first-in-If.first) (shown_tree c.deref-in-If-2.result.now) (shown_tree c.in_ok-second-in-If.second) (shown_tree c.args.e.now) (shown_tree x) v a b s h) c.choose.ensures
+    if_done K (change_of k c.args.changes.now) lo i.ensures.shown v a (c.in_ok-second-in-If.ensures.tree k _ m) h) c.choose.ensures
 
 pub change-returns-in_ok-second-in-If-clause-left : goal.change-returns-in_ok-second-in-If-clause-left
 change-returns-in_ok-second-in-If-clause-left t c =
-    let s = shown_if c.args.e.now.node c.args.e.now.place c.in-If.condition c.in-If.first c.in-If.second
-    c.deref.result.now c.deref-in-If.result.now c.deref-in-If-2.result.now c.in-If.is c.deref.ensures c.deref-in-If.ensures c.deref-in-If-2.ensures in
-    on_ok_always c.choose.result (left_if (known c.args.heads.now c.args.unit) c.args.e.now.place
-    (shown_tree c.deref.result.now) (shown_tree c.deref-in-If.result.now) (shown_tree c.deref-in-If-2.result.now) (shown_tree c.args.e.now) c.args.left.now
-    c.change.new.left c.change-in-If.new.left c.change-in-If-2.new.left s c.in_ok-condition-in-If.ensures.left c.in_ok-first-in-If.ensures.left
-    c.in_ok-second-in-If.ensures.left)
+    on_ok_always c.choose.result (left_if (known c.args.heads.now c.args.unit) _ c.in-If.ensures.shown c.in_ok-condition-in-If.ensures.left
+    c.in_ok-first-in-If.ensures.left c.in_ok-second-in-If.ensures.left)
 
 pub change-returns-in_ok-body-in-Let-clause-tree : goal.change-returns-in_ok-body-in-Let-clause-tree
 change-returns-in_ok-body-in-Let-clause-tree t c =
-    let s = shown_let c.args.e.now.node c.args.e.now.place c.in-Let.binds c.in-Let.body c.deref-in-Let.result.now c.deref-in-Let-2.result.now
-    c.in-Let.is c.deref-in-Let.ensures.value c.deref-in-Let-2.ensures in
+    let K = known c.args.heads.now c.args.unit in
     IfOk-weaker c.bind.result _ _ (λ x h k lo e.
-    let bs = c.in_ok-binds-in-Let.ensures.bounds k lo e in
-    let l : c.change_binds.new.left ≡ suc k - (lo + sites_bounds (known c.args.heads.now c.args.unit) (shown_bounds c.deref-in-Let.result.now)) = omega (arith, e, c.in_ok-binds-in-Let.ensures.left) in
-    let b = c.in_ok-body-in-Let.ensures.tree k (lo + sites_bounds (known c.args.heads.now c.args.unit) (shown_bounds c.deref-in-Let.result.now)) l in
-    let_done (known c.args.heads.now c.args.unit) (change_of k c.args.changes.now) lo c.args.e.now.place (shown_bounds c.deref-in-Let.result.now)
-    (shown_bounds c.in_ok-binds-in-Let.binds.items) (shown_tree c.deref-in-Let-2.result.now) (shown_tree c.in_ok-body-in-Let.body)
-    (shown_tree c.args.e.now) (shown_tree x) bs b s h) c.bind.ensures
+    let l : c.change_binds.new.left ≡ suc k - (lo + sites_bounds K (shown_bounds c.in-Let.binds.now)) = omega (arith, e, c.in_ok-binds-in-Let.ensures.left) in
+    let_done K (change_of k c.args.changes.now) lo _ c.in-Let.ensures.shown (c.in_ok-binds-in-Let.ensures.bounds k lo e)
+    (c.in_ok-body-in-Let.ensures.tree k _ l) h) c.bind.ensures
 
 pub change-returns-in_ok-body-in-Let-clause-left : goal.change-returns-in_ok-body-in-Let-clause-left
 change-returns-in_ok-body-in-Let-clause-left t c =
-    let s = shown_let c.args.e.now.node c.args.e.now.place c.in-Let.binds c.in-Let.body c.deref-in-Let.result.now c.deref-in-Let-2.result.now
-    c.in-Let.is c.deref-in-Let.ensures.value c.deref-in-Let-2.ensures in
-    on_ok_always c.bind.result (left_let (known c.args.heads.now c.args.unit) c.args.e.now.place (shown_bounds c.deref-in-Let.result.now)
-    (shown_tree c.deref-in-Let-2.result.now) (shown_tree c.args.e.now) c.args.left.now c.change_binds.new.left c.change-in-Let.new.left s
+    on_ok_always c.bind.result (left_let (known c.args.heads.now c.args.unit) _ _ c.in-Let.ensures.shown
     c.in_ok-binds-in-Let.ensures.left c.in_ok-body-in-Let.ensures.left)
 
 pub change-returns-in_ok-other-in-Case-clause-tree : goal.change-returns-in_ok-other-in-Case-clause-tree
 change-returns-in_ok-other-in-Case-clause-tree t c =
-    let s = shown_case c.args.e.now.node c.args.e.now.place c.in-Case.value c.in-Case.arms c.in-Case.other c.deref-in-Case.result.now
-    c.deref-in-Case-2.result.now c.deref-in-Case-3.result.now c.in-Case.is c.deref-in-Case.ensures c.deref-in-Case-2.ensures.value c.deref-in-Case-3.ensures in
+    let K = known c.args.heads.now c.args.unit in
+    let i = c.in-Case in
     IfOk-weaker c.select.result _ _ (λ x h k lo e.
     let v = c.in_ok-value-in-Case.ensures.tree k lo e in
-    let l : c.change-in-Case.new.left ≡ suc k - (lo + sites_in_tree (known c.args.heads.now c.args.unit) (shown_tree c.deref-in-Case.result.now)) =
-    omega (arith, e, c.in_ok-value-in-Case.ensures.left) in
-    let ls = c.in_ok-arms-in-Case.ensures.labelled k (lo + sites_in_tree (known c.args.heads.now c.args.unit) (shown_tree c.deref-in-Case.result.now)) l in
-    let m : c.change_arms.new.left ≡ suc k - (lo + sites_in_tree (known c.args.heads.now c.args.unit) (shown_tree c.deref-in-Case.result.now) +
-    sites_labelled (known c.args.heads.now c.args.unit) (shown_labelled c.deref-in-Case-2.result.now)) = omega (arith, l, c.in_ok-arms-in-Case.ensures.left) in
-    let o = c.in_ok-other-in-Case.ensures.tree k (lo + sites_in_tree (known c.args.heads.now c.args.unit) (shown_tree c.deref-in-Case.result.now) +
-    sites_labelled (known c.args.heads.now c.args.unit) (shown_labelled c.deref-in-Case-2.result.now)) m in
-    case_done (known c.args.heads.now c.args.unit) (change_of k c.args.changes.now) lo c.args.e.now.place (shown_tree c.deref-in-Case.result.now)
-    (shown_tree c.in_ok-value-in-Case.value) (shown_labelled c.deref-in-Case-2.result.now) (shown_labelled c.in_ok-arms-in-Case.arms.items)
-    (shown_tree c.deref-in-Case-3.result.now) (shown_tree c.in_ok-other-in-Case.other) (shown_tree c.args.e.now) (shown_tree x) v ls o s h) c.select.ensures
+    let l : c.change-in-Case.new.left ≡ suc k - (lo + sites_in_tree K (shown_tree i.value.now)) = omega (arith, e, c.in_ok-value-in-Case.ensures.left) in
+    let ls = c.in_ok-arms-in-Case.ensures.labelled k _ l in
+    let m : c.change_arms.new.left ≡ suc k - (lo + sites_in_tree K (shown_tree i.value.now) + sites_labelled K (shown_labelled i.arms.now)) =
+    omega (arith, l, c.in_ok-arms-in-Case.ensures.left) in
+    case_done K (change_of k c.args.changes.now) lo _ _ i.ensures.shown v ls (c.in_ok-other-in-Case.ensures.tree k _ m) h) c.select.ensures
 
 pub change-returns-in_ok-other-in-Case-clause-left : goal.change-returns-in_ok-other-in-Case-clause-left
 change-returns-in_ok-other-in-Case-clause-left t c =
-    let s = shown_case c.args.e.now.node c.args.e.now.place c.in-Case.value c.in-Case.arms c.in-Case.other c.deref-in-Case.result.now
-    c.deref-in-Case-2.result.now c.deref-in-Case-3.result.now c.in-Case.is c.deref-in-Case.ensures c.deref-in-Case-2.ensures.value c.deref-in-Case-3.ensures in
-    on_ok_always c.select.result (left_case (known c.args.heads.now c.args.unit) c.args.e.now.place (shown_tree c.deref-in-Case.result.now)
-    (shown_labelled c.deref-in-Case-2.result.now) (shown_tree c.deref-in-Case-3.result.now) (shown_tree c.args.e.now) c.args.left.now
-    c.change-in-Case.new.left c.change_arms.new.left c.change-in-Case-2.new.left s c.in_ok-value-in-Case.ensures.left
+    on_ok_always c.select.result (left_case (known c.args.heads.now c.args.unit) _ _ _ c.in-Case.ensures.shown c.in_ok-value-in-Case.ensures.left
     c.in_ok-arms-in-Case.ensures.left c.in_ok-other-in-Case.ensures.left)
 
 pub change-returns-in_ok-operands-in-Op-clause-tree : goal.change-returns-in_ok-operands-in-Op-clause-tree
-change-returns-in_ok-operands-in-Op-clause-tree t c =
-    let s = shown_op c.args.e.now.node c.args.e.now.place c.in-Op.operator c.in-Op.operands c.deref-in-Op.result.now c.in-Op.is c.deref-in-Op.ensures.value in
-    λ k lo e. op_done (known c.args.heads.now c.args.unit) (change_of k c.args.changes.now) lo c.args.e.now.place c.in-Op.operator
-    (shown_trees c.deref-in-Op.result.now) (shown_trees c.in_ok-operands-in-Op.operands.items) (shown_tree c.args.e.now)
-    (shown_tree c.operate.result) (c.in_ok-operands-in-Op.ensures.trees k lo e) s c.operate.ensures
+change-returns-in_ok-operands-in-Op-clause-tree t c = λ k lo e.
+    op_done (known c.args.heads.now c.args.unit) (change_of k c.args.changes.now) lo _ c.in-Op.ensures.shown
+    (c.in_ok-operands-in-Op.ensures.trees k lo e) c.operate.ensures
 
 pub change-returns-in_ok-operands-in-Op-clause-left : goal.change-returns-in_ok-operands-in-Op-clause-left
-change-returns-in_ok-operands-in-Op-clause-left t c =
-    let s = shown_op c.args.e.now.node c.args.e.now.place c.in-Op.operator c.in-Op.operands c.deref-in-Op.result.now c.in-Op.is c.deref-in-Op.ensures.value in
-    left_op (known c.args.heads.now c.args.unit) c.args.e.now.place c.in-Op.operator (shown_trees c.deref-in-Op.result.now) (shown_tree c.args.e.now)
-    c.args.left.now c.change_all.new.left s c.in_ok-operands-in-Op.ensures.left
+change-returns-in_ok-operands-in-Op-clause-left t c = left_op (known c.args.heads.now c.args.unit) _ _ c.in-Op.ensures.shown c.in_ok-operands-in-Op.ensures.left
 
 pub change-returns-in_ok-arguments-in-Call-clause-tree : goal.change-returns-in_ok-arguments-in-Call-clause-tree
 change-returns-in_ok-arguments-in-Call-clause-tree t c =
-    let s = shown_call c.args.e.now.node c.args.e.now.place c.in-Call.name c.in-Call.arguments c.deref-in-Call.result.now c.in-Call.is c.deref-in-Call.ensures.value in
-    let z : site_of c.find_callee-callee.result ≡ is_site (callee (known c.args.heads.now c.args.unit) c.in-Call.name) = sym
-    (site_plain c.args.heads.now c.find_callee-callee.result c.find_callee-callee.ensures.one) ∙ ap is_site c.find_callee-callee.ensures.found in
+    let K = known c.args.heads.now c.args.unit in
+    let i = c.in-Call in
+    let found = c.find_callee-callee.ensures.found in
+    let z : site_of c.find_callee-callee.result ≡ is_site (callee K i.name.now) =
+    sym (site_plain c.args.heads.now c.find_callee-callee.result c.find_callee-callee.ensures.one) ∙ ap is_site found in
     IfOk-weaker c.changed_call.result _ _ (λ x h k lo e.
-    let l : c.pass-here.new.left ≡ suc k - (lo + is_site (callee (known c.args.heads.now c.args.unit) c.in-Call.name)) = omega (arith, e, z, c.pass-here.ensures.left) in
-    let xs = c.in_ok-arguments-in-Call.ensures.trees k (lo + is_site (callee (known c.args.heads.now c.args.unit) c.in-Call.name)) l in
+    let l : c.pass-here.new.left ≡ suc k - (lo + is_site (callee K i.name.now)) = omega (arith, e, z, c.pass-here.ensures.left) in
     let r = h c.args.heads.now k lo c.find_callee-callee.ensures.one (c.pass-here.ensures.here k lo e) in
-    call_done (known c.args.heads.now c.args.unit) (change_of k c.args.changes.now) lo c.args.e.now.place c.in-Call.name
-    (shown_trees c.deref-in-Call.result.now) (shown_trees c.in_ok-arguments-in-Call.arguments.items) (shown_tree c.args.e.now) (shown_tree x) xs s
-    (r ∙ ap (λ f. change_of k c.args.changes.now f lo c.args.e.now.place c.in-Call.name
-    (trees_of (shown_trees c.in_ok-arguments-in-Call.arguments.items))) c.find_callee-callee.ensures.found)) c.changed_call.ensures
+    call_done K (change_of k c.args.changes.now) lo _ i.ensures.shown (c.in_ok-arguments-in-Call.ensures.trees k _ l)
+    (r ∙ ap (λ f. change_of k c.args.changes.now f lo c.args.e.now.place i.name.now
+    (trees_of (shown_trees c.in_ok-arguments-in-Call.arguments.items))) found)) c.changed_call.ensures
 
 pub change-returns-in_ok-arguments-in-Call-clause-left : goal.change-returns-in_ok-arguments-in-Call-clause-left
 change-returns-in_ok-arguments-in-Call-clause-left t c =
-    let s = shown_call c.args.e.now.node c.args.e.now.place c.in-Call.name c.in-Call.arguments c.deref-in-Call.result.now c.in-Call.is c.deref-in-Call.ensures.value in
-    let z : site_of c.find_callee-callee.result ≡ is_site (callee (known c.args.heads.now c.args.unit) c.in-Call.name) = sym
+    let z : site_of c.find_callee-callee.result ≡ is_site (callee (known c.args.heads.now c.args.unit) c.in-Call.name.now) = sym
     (site_plain c.args.heads.now c.find_callee-callee.result c.find_callee-callee.ensures.one) ∙ ap is_site c.find_callee-callee.ensures.found in
-    on_ok_always c.changed_call.result (left_call (known c.args.heads.now c.args.unit) c.args.e.now.place c.in-Call.name
-    (shown_trees c.deref-in-Call.result.now) (shown_tree c.args.e.now) c.args.left.now c.pass-here.new.left c.change_all-in-Call.new.left
-    (site_of c.find_callee-callee.result) s z c.pass-here.ensures.left c.in_ok-arguments-in-Call.ensures.left)
+    on_ok_always c.changed_call.result (left_call (known c.args.heads.now c.args.unit) _ _ c.in-Call.ensures.shown z
+    c.pass-here.ensures.left c.in_ok-arguments-in-Call.ensures.left)
 
 pub change_all-loop-e-preserved : goal.change_all-loop-e-preserved
 change_all-loop-e-preserved t c = record {

@@ -3,7 +3,7 @@ use Rattle.std.proofs.lemmas.List.{drop_all}
 use Rattle.safl_tree.specs.declared.tree.Expr.{Expr}
 use Rattle.safl_tree.specs.declared.tree.Bind.{Bind}
 use Rattle.safl_tree.specs.declared.tree.Arm.{Arm}
-use Rattle.safl_tree.specs.Shown.{shown_tree, shown_trees, shown_bounds, shown_labelled}
+use Rattle.safl_tree.specs.Shown.{shown_trees, shown_bounds, shown_labelled}
 use Rattle.safl_typing.specs.Heads.{is_site}
 use Rattle.safl_typing.specs.PlainHeads.{known}
 use Rattle.safl_typing.proofs.HeadsByName.{site_plain}
@@ -11,47 +11,31 @@ use Rattle.safl_reshape.specs.Counting.{nodes_list, nodes_bounds, nodes_labelled
 use Rattle.safl_reshape.specs.Lists.{sites_list, sites_bounds, sites_labelled}
 use Rattle.safl_reshape.proofs.Counted.{Left, if_adds, let_adds, case_adds, op_adds, call_adds, adds_more, left_less, all_left, none_left, list_nodes_left, bounds_nodes_left, arms_nodes_left}
 use Rattle.safl_reshape.proofs.ListsLeft.{list_left, bounds_left, arms_left}
-use Rattle.safl_reshape.proofs.ShownNodes.{shown_if, shown_let, shown_case, shown_op, shown_call}
 use Rattle.safl_reshape.proofs.counts.+counting.Goals as goal
 
 pub count-returns-in-If : goal.count-returns-in-If
 count-returns-in-If t c =
-    let s = shown_if c.args.e.now.node c.args.e.now.place c.in-If.condition c.in-If.first c.in-If.second
-    c.deref.result.now c.deref-in-If.result.now c.deref-in-If-2.result.now c.in-If.is c.deref.ensures c.deref-in-If.ensures c.deref-in-If-2.ensures in
-    if_adds (known c.args.heads.now c.args.unit) c.args.e.now.place (shown_tree c.args.e.now) c.args.before c.plus-itself.result c.plus-itself.ensures
-    (shown_tree c.deref.result.now) (shown_tree c.deref-in-If.result.now) (shown_tree c.deref-in-If-2.result.now) c.count-upto_condition.result
-    c.count-upto_first.result c.count.result s c.count-upto_condition.ensures c.count-upto_first.ensures c.count.ensures
+    if_adds (known c.args.heads.now c.args.unit) c.plus-itself.ensures c.in-If.ensures.shown
+    c.count-upto_condition.ensures c.count-upto_first.ensures c.count.ensures
 
 pub count-returns-in-Let : goal.count-returns-in-Let
 count-returns-in-Let t c =
-    let s = shown_let c.args.e.now.node c.args.e.now.place c.in-Let.binds c.in-Let.body c.deref-in-Let.result.now c.deref-in-Let-2.result.now
-    c.in-Let.is c.deref-in-Let.ensures.value c.deref-in-Let-2.ensures in
-    let_adds (known c.args.heads.now c.args.unit) c.args.e.now.place (shown_tree c.args.e.now) c.args.before c.plus-itself.result
-    c.plus-itself.ensures (shown_bounds c.deref-in-Let.result.now) (shown_tree c.deref-in-Let-2.result.now) c.count_binds-upto_binds.result
-    c.count-in-Let.result s c.count_binds-upto_binds.ensures c.count-in-Let.ensures
+    let_adds (known c.args.heads.now c.args.unit) c.plus-itself.ensures _ c.in-Let.ensures.shown
+    c.count_binds-upto_binds.ensures c.count-in-Let.ensures
 
 pub count-returns-in-Case : goal.count-returns-in-Case
 count-returns-in-Case t c =
-    let s = shown_case c.args.e.now.node c.args.e.now.place c.in-Case.value c.in-Case.arms c.in-Case.other c.deref-in-Case.result.now
-    c.deref-in-Case-2.result.now c.deref-in-Case-3.result.now c.in-Case.is c.deref-in-Case.ensures c.deref-in-Case-2.ensures.value c.deref-in-Case-3.ensures in
-    case_adds (known c.args.heads.now c.args.unit) c.args.e.now.place (shown_tree c.args.e.now) c.args.before c.plus-itself.result
-    c.plus-itself.ensures (shown_tree c.deref-in-Case.result.now) (shown_labelled c.deref-in-Case-2.result.now)
-    (shown_tree c.deref-in-Case-3.result.now) c.count-upto_value.result c.count_arms-upto_arms.result c.count-in-Case.result s
+    case_adds (known c.args.heads.now c.args.unit) c.plus-itself.ensures _ _ c.in-Case.ensures.shown
     c.count-upto_value.ensures c.count_arms-upto_arms.ensures c.count-in-Case.ensures
 
 pub count-returns-in-Op : goal.count-returns-in-Op
-count-returns-in-Op t c =
-    let s = shown_op c.args.e.now.node c.args.e.now.place c.in-Op.field-0 c.in-Op.operands c.deref-in-Op.result.now c.in-Op.is c.deref-in-Op.ensures.value in
-    op_adds (known c.args.heads.now c.args.unit) c.args.e.now.place (shown_tree c.args.e.now) c.args.before c.plus-itself.result c.plus-itself.ensures
-    c.in-Op.field-0 (shown_trees c.deref-in-Op.result.now) c.count_all.result s c.count_all.ensures
+count-returns-in-Op t c = op_adds (known c.args.heads.now c.args.unit) c.plus-itself.ensures _ c.in-Op.ensures.shown c.count_all.ensures
 
 pub count-returns-in-Call : goal.count-returns-in-Call
 count-returns-in-Call t c =
-    let s = shown_call c.args.e.now.node c.args.e.now.place c.in-Call.name c.in-Call.arguments c.deref-in-Call.result.now c.in-Call.is c.deref-in-Call.ensures.value in
     let z = site_plain c.args.heads.now c.find_callee.result c.find_callee.ensures.one in
-    call_adds (known c.args.heads.now c.args.unit) c.args.e.now.place (shown_tree c.args.e.now) c.args.before c.plus-itself.result
-    c.plus-itself.ensures c.in-Call.name (shown_trees c.deref-in-Call.result.now) c.plus-called.result c.count_all-in-Call.result c.sites_of_callee-sites.result s
-    (c.sites_of_callee-sites.ensures ∙ (sym z ∙ ap is_site c.find_callee.ensures.found)) c.plus-called.ensures c.count_all-in-Call.ensures
+    call_adds (known c.args.heads.now c.args.unit) c.plus-itself.ensures _ c.in-Call.ensures.shown (c.sites_of_callee-sites.ensures ∙ (sym z ∙ ap is_site c.find_callee.ensures.found))
+    c.plus-called.ensures c.count_all-in-Call.ensures
 
 pub count_all-loop-e-preserved : goal.count_all-loop-e-preserved
 count_all-loop-e-preserved t c =

@@ -13,59 +13,22 @@ use Rattle.safl_tree.specs.Printable.{layers_of, left_context, right_context}
 use Rattle.safl_tree.specs.Printed
 use Rattle.safl_tree.specs.Printed.{PrintedToken, separated, enclosed, part_words, bind_words, bound_words, labelled_words, words, Writes}
 use Rattle.safl_tree.proofs.Writing.{Leaves, behind, leaves_less, chain_3, chain_4, chain_6, chain_8, items_step, items_end, by_first, case_split}
-use Rattle.safl_tree.proofs.Writing.{choice_words, let_words, case_words, op_words, call_words}
 use Rattle.safl_tree.proofs.print_expression.+print.Goals as goal
 
 -- ---- an expression
 
-pub push_expr-returns-in_ok-push_key-in-If-3 : goal.push_expr-returns-in_ok-push_key-in-If-3
-push_expr-returns-in_ok-push_key-in-If-3 t c =
-    subst (λ (ws : List PrintedToken). OnOk c.push_expr-in-If-2.result (Writes c.args.out.now.items c.push_expr-in-If-2.new.out.items ws))
-    (choice_words c.args.e.now.node c.args.e.now.place c.in-If.c c.in-If.a c.in-If.b c.deref.result.now c.deref-in-If.result.now
-    c.deref-in-If-2.result.now c.in-If.is c.deref.ensures c.deref-in-If.ensures c.deref-in-If-2.ensures)
-    (chain_6 c.push_expr-in-If-2.result c.args.out.now.items c.push_key.new.out.items c.push_expr.new.out.items c.push_key-in-If.new.out.items
-    c.push_expr-in-If.new.out.items c.push_key-in-If-2.new.out.items c.push_expr-in-If-2.new.out.items (Printed.key keys.If ∷ [])
-    (words (shown_tree c.deref.result.now)) (Printed.key keys.Then ∷ []) (words (shown_tree c.deref-in-If.result.now))
-    (Printed.key keys.Else ∷ []) (words (shown_tree c.deref-in-If-2.result.now)) c.in_ok-push_key-in-If.ensures c.in_ok-push_expr-in-If.ensures
-    c.in_ok-push_key-in-If-2.ensures c.in_ok-push_expr-in-If-2.ensures c.in_ok-push_key-in-If-3.ensures c.push_expr-in-If-2.ensures)
-
-pub push_expr-returns-in_ok-push_key-in-Let-2 : goal.push_expr-returns-in_ok-push_key-in-Let-2
-push_expr-returns-in_ok-push_key-in-Let-2 t c =
-    subst (λ (ws : List PrintedToken). OnOk c.push_expr-in-Let.result (Writes c.args.out.now.items c.push_expr-in-Let.new.out.items ws))
-    (let_words c.args.e.now.node c.args.e.now.place c.in-Let.bs c.in-Let.body c.deref-in-Let.result.now c.deref-in-Let-2.result.now c.in-Let.is
-    c.deref-in-Let.ensures.value c.deref-in-Let-2.ensures)
-    (chain_4 c.push_expr-in-Let.result c.args.out.now.items c.push_key-in-Let.new.out.items c.push_bindings.new.out.items
-    c.push_key-in-Let-2.new.out.items c.push_expr-in-Let.new.out.items (Printed.key keys.Let ∷ [])
-    (separated (Printed.sym syms.Comma) (bind_words (binds_of (shown_bounds c.deref-in-Let.result.now)))) (Printed.key keys.In ∷ [])
-    (words (shown_tree c.deref-in-Let-2.result.now)) c.in_ok-push_key-in-Let.ensures c.in_ok-push_bindings-in-Let.ensures
-    c.in_ok-push_key-in-Let-2.ensures c.push_expr-in-Let.ensures)
-
 pub push_expr-returns-in_ok-push_expr-in-Case-2 : goal.push_expr-returns-in_ok-push_expr-in-Case-2
 push_expr-returns-in_ok-push_expr-in-Case-2 t c =
+    let i = c.in-Case in
     subst (λ (ws : List PrintedToken). OnOk c.push_sym-in-Case-2.result (Writes c.args.out.now.items c.push_sym-in-Case-2.new.out.items ws))
-    (ap (λ (ws : List PrintedToken). Printed.key keys.Case ∷ ws) (case_split (shown_tree c.deref-in-Case.result.now)
-    (shown_tree c.deref-in-Case-3.result.now) (shown_labelled c.deref-in-Case-2.result.now)) ∙ case_words c.args.e.now.node c.args.e.now.place
-    c.in-Case.scrutinee c.in-Case.arms c.in-Case.default c.deref-in-Case.result.now c.deref-in-Case-2.result.now c.deref-in-Case-3.result.now
-    c.in-Case.is c.deref-in-Case.ensures c.deref-in-Case-2.ensures.value c.deref-in-Case-3.ensures)
+    (ap (λ (ws : List PrintedToken). Printed.key keys.Case ∷ ws) (case_split (shown_tree i.scrutinee.now) (shown_tree i.default.now) (shown_labelled i.arms.now)) ∙ sym (ap words i.ensures.shown))
     (chain_8 c.push_sym-in-Case-2.result c.args.out.now.items c.push_key-in-Case.new.out.items c.push_expr-in-Case.new.out.items
     c.push_sym.new.out.items c.push_arms.new.out.items c.push_key-in-Case-2.new.out.items c.push_sym-in-Case.new.out.items
-    c.push_expr-in-Case-2.new.out.items c.push_sym-in-Case-2.new.out.items (Printed.key keys.Case ∷ [])
-    (words (shown_tree c.deref-in-Case.result.now)) (Printed.sym syms.OpenBrace ∷ [])
-    (labelled_words (shown_labelled c.deref-in-Case-2.result.now)) (Printed.key keys.Default ∷ []) (Printed.sym syms.Arrow ∷ [])
-    (words (shown_tree c.deref-in-Case-3.result.now)) (Printed.sym syms.CloseBrace ∷ []) c.in_ok-push_key-in-Case.ensures
+    c.push_expr-in-Case-2.new.out.items c.push_sym-in-Case-2.new.out.items (Printed.key keys.Case ∷ []) (words (shown_tree i.scrutinee.now))
+    (Printed.sym syms.OpenBrace ∷ []) (labelled_words (shown_labelled i.arms.now)) (Printed.key keys.Default ∷ []) (Printed.sym syms.Arrow ∷ [])
+    (words (shown_tree i.default.now)) (Printed.sym syms.CloseBrace ∷ []) c.in_ok-push_key-in-Case.ensures
     c.in_ok-push_expr-in-Case.ensures c.in_ok-push_sym-in-Case.ensures c.in_ok-push_arms-in-Case.ensures c.in_ok-push_key-in-Case-2.ensures
     c.in_ok-push_sym-in-Case-2.ensures c.in_ok-push_expr-in-Case-2.ensures c.push_sym-in-Case-2.ensures)
-
-pub push_expr-returns-in-Op : goal.push_expr-returns-in-Op
-push_expr-returns-in-Op t c =
-    subst (λ (ws : List PrintedToken). OnOk c.push_operation.result (Writes c.args.out.now.items c.push_operation.new.out.items ws))
-    (op_words c.args.e.now.node c.args.e.now.place c.in-Op.p c.in-Op.es c.deref-in-Op.result.now c.in-Op.is c.deref-in-Op.ensures.value) c.push_operation.ensures
-
-pub push_expr-returns-in-Call : goal.push_expr-returns-in-Call
-push_expr-returns-in-Call t c =
-    subst (λ (ws : List PrintedToken). OnOk c.push_call.result (Writes c.args.out.now.items c.push_call.new.out.items ws))
-    (call_words c.args.e.now.node c.args.e.now.place c.in-Call.f c.in-Call.es c.deref-in-Call.result.now c.in-Call.is
-    c.deref-in-Call.ensures.value) c.push_call.ensures
 
 -- ---- calls and operators
 

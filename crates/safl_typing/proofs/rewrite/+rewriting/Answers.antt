@@ -1,8 +1,5 @@
-use Rattle.std.proofs.Common.{◌≡◌, ap, ◌∙◌, List, refl, sym}
+use Rattle.std.proofs.Common.{ap, ◌∙◌, List, refl, sym}
 use Rattle.safl_tree.specs.Shown.{shown_tree}
-use Rattle.safl_tree.specs.declared.tree.Expr.{Expr}
-use Rattle.safl_typing.specs.Rewriting.{rewritten}
-use Rattle.safl_typing.specs.Plain.{shown_expression}
 use Rattle.safl_typing.specs.PlainHeads.{known}
 use Rattle.safl_typing.specs.Heads.{callee, is_site}
 use Rattle.safl_typing.proofs.PlainLists.{ok_plain}
@@ -12,28 +9,22 @@ use Rattle.safl_typing.proofs.ListsRewritten.{let_rewrites, case_rewrites, op_re
 use Rattle.safl_typing.proofs.rewrite.+rewriting.Goals as goal
 
 pub rewrite-returns-in_ok-body-in-Let-clause-rewritten : goal.rewrite-returns-in_ok-body-in-Let-clause-rewritten
-rewrite-returns-in_ok-body-in-Let-clause-rewritten t c =
-    let e = let_rewrites c.args.e.now.node c.args.e.now.place c.in-Let.binds c.in-Let.body _ _ _ _ c.in-Let.is c.deref-in-Let.ensures.value
-    c.deref-in-Let-2.ensures c.in_ok-bound-in-Let.ensures.rewritten c.in_ok-body-in-Let.ensures.rewritten in
-    ok_plain c.bind.result _ _ c.bind.ensures.made e
+rewrite-returns-in_ok-body-in-Let-clause-rewritten t c = ok_plain c.bind.result _ _ c.bind.ensures.made
+    (let_rewrites c.args.e.now.place c.in-Let.ensures.shown c.in_ok-bound-in-Let.ensures.rewritten c.in_ok-body-in-Let.ensures.rewritten)
 
 pub rewrite-returns-in_ok-body-in-Case-clause-rewritten : goal.rewrite-returns-in_ok-body-in-Case-clause-rewritten
 rewrite-returns-in_ok-body-in-Case-clause-rewritten t c =
-    let other : shown_expression c.in_ok-default-in-Case.default ≡ rewritten (shown_tree c.in-Case.default.value) =
-    c.in_ok-default-in-Case.ensures.rewritten ∙ ap (λ (z : Expr). rewritten (shown_tree z)) c.deref-in-Case-2.ensures in
-    let arms = c.in_ok-body-in-Case.ensures.rewritten (shown_tree c.in-Case.default.value) other in
-    let e = case_rewrites c.args.e.now.node c.args.e.now.place c.in-Case.scrutinee c.in-Case.arms c.in-Case.default c.in_ok-value-in-Case.value
-    c.in_ok-body-in-Case.body _ _ c.in-Case.is c.deref-in-Case-3.ensures.value c.deref-in-Case.ensures c.in_ok-value-in-Case.ensures.rewritten arms in
-    ok_plain c.scrutinise.result _ _ c.scrutinise.ensures.made e
+    let arms = c.in_ok-body-in-Case.ensures.rewritten (shown_tree c.in-Case.default.now) c.in_ok-default-in-Case.ensures.rewritten in
+    ok_plain c.scrutinise.result _ _ c.scrutinise.ensures.made
+    (case_rewrites c.args.e.now.place c.in-Case.ensures.shown c.in_ok-value-in-Case.ensures.rewritten arms)
 
 pub rewrite-returns-in_ok-operands-in-Op-clause-rewritten : goal.rewrite-returns-in_ok-operands-in-Op-clause-rewritten
-rewrite-returns-in_ok-operands-in-Op-clause-rewritten t c = c.operate.ensures.made ∙ op_rewrites c.args.e.now.node c.args.e.now.place c.in-Op.operator
-    c.in-Op.operands c.in_ok-operands-in-Op.operands _ c.in-Op.is c.deref-in-Op.ensures.value c.in_ok-operands-in-Op.ensures.rewritten
+rewrite-returns-in_ok-operands-in-Op-clause-rewritten t c =
+    c.operate.ensures.made ∙ op_rewrites c.args.e.now.place c.in-Op.ensures.shown c.in_ok-operands-in-Op.ensures.rewritten
 
 pub rewrite-returns-in_ok-copied-in-Call-clause-rewritten : goal.rewrite-returns-in_ok-copied-in-Call-clause-rewritten
-rewrite-returns-in_ok-copied-in-Call-clause-rewritten t c = c.call.ensures.made ∙ call_rewrites c.args.e.now.node c.args.e.now.place c.in-Call.name
-    c.in_ok-copied-in-Call.field-0 c.in-Call.arguments c.in_ok-arguments-in-Call.arguments _ c.in-Call.is c.in_ok-copied-in-Call.ensures
-    c.deref-in-Call.ensures.value c.in_ok-arguments-in-Call.ensures.rewritten
+rewrite-returns-in_ok-copied-in-Call-clause-rewritten t c = c.call.ensures.made ∙ call_rewrites c.args.e.now.place c.in-Call.ensures.shown
+    c.in_ok-copied-in-Call.ensures c.in_ok-arguments-in-Call.ensures.rewritten
 
 pub rewrite-returns-in_ok-copied-in-Call-clause-marked : goal.rewrite-returns-in_ok-copied-in-Call-clause-marked
 rewrite-returns-in_ok-copied-in-Call-clause-marked t c =
