@@ -259,11 +259,11 @@ module _ {C : Program} {plan : Plan} (good : Numbered C) where
 
 -- ---- the same under other names
 
-pub look_as : {stages stages' : List Stage} {P P1 : List Place} {noted noted' : Asks} {frame frame' : List Word} {table table' : List Kept} {n n1 p p1 : ℕ} {news : Option ℕ} {t t1 : Term}
-    → stages' ≡ stages → P1 ≡ P → noted' ≡ noted → frame' ≡ frame → table' ≡ table → n1 ≡ n → p1 ≡ p → t1 ≡ t → MayLook stages P noted frame table n p news t
-    → MayLook stages' P1 noted' frame' table' n1 p1 news t1
-look_as {stages} {stages'} {P} {P1} {noted} {noted'} {frame} {frame'} {table} {table'} {n} {n1} {p} {p1} {news} {t} {t1} a b c d e f g i h =
-    subst (λ (x : List Stage). MayLook x P1 noted' frame' table' n1 p1 news t1) (sym a)
+pub look_as : {stages stages' : List Stage} {P P' : List Place} {noted noted' : Asks} {frame frame' : List Word} {table table' : List Kept} {n n1 p p1 : ℕ} {news : Option ℕ} {t t1 : Term}
+    → stages' ≡ stages → P' ≡ P → noted' ≡ noted → frame' ≡ frame → table' ≡ table → n1 ≡ n → p1 ≡ p → t1 ≡ t → MayLook stages P noted frame table n p news t
+    → MayLook stages' P' noted' frame' table' n1 p1 news t1
+look_as {stages} {stages'} {P} {P'} {noted} {noted'} {frame} {frame'} {table} {table'} {n} {n1} {p} {p1} {news} {t} {t1} a b c d e f g i h =
+    subst (λ (x : List Stage). MayLook x P' noted' frame' table' n1 p1 news t1) (sym a)
     (subst (λ (x : List Place). MayLook stages x noted' frame' table' n1 p1 news t1) (sym b)
     (subst (λ (x : Asks). MayLook stages P x frame' table' n1 p1 news t1) (sym c)
     (subst (λ (x : List Word). MayLook stages P noted x table' n1 p1 news t1) (sym d)
@@ -272,15 +272,16 @@ look_as {stages} {stages'} {P} {P1} {noted} {noted'} {frame} {frame'} {table} {t
     (subst (λ (x : ℕ). MayLook stages P noted frame table n x news t1) (sym g)
     (subst (λ (x : Term). MayLook stages P noted frame table n p news x) (sym i) h)))))))
 
-pub finds_as : {stages stages' : List Stage} {noted noted' A2 : Asks} {frame frame' : List Word} {table table' W2 : List Kept} {n p p1 : ℕ} {t t1 : Term} {o : Option Word}
-    → stages' ≡ stages → noted' ≡ noted → frame' ≡ frame → table' ≡ table → p1 ≡ p → t1 ≡ t → Finds stages' noted' A2 frame' table' W2 n p1 t1 o → Finds stages noted A2 frame table W2 n p t o
-finds_as {stages} {stages'} {noted} {noted'} {A2} {frame} {frame'} {table} {table'} {W2} {n} {p} {p1} {t} {t1} {o} a c d e g i h =
-    subst (λ (x : List Stage). Finds x noted A2 frame table W2 n p t o) a
-    (subst (λ (x : Asks). Finds stages' x A2 frame table W2 n p t o) c
-    (subst (λ (x : List Word). Finds stages' noted' A2 x table W2 n p t o) d
-    (subst (λ (x : List Kept). Finds stages' noted' A2 frame' x W2 n p t o) e
-    (subst (λ (x : ℕ). Finds stages' noted' A2 frame' table' W2 n x t o) g
-    (subst (λ (x : Term). Finds stages' noted' A2 frame' table' W2 n p1 x o) i h)))))
+pub finds_as : {stages stages' : List Stage} {noted noted' later : Asks} {frame frame' : List Word} {table table' later_table : List Kept} {n p p1 : ℕ} {t t1 : Term} {o : Option Word}
+    → stages' ≡ stages → noted' ≡ noted → frame' ≡ frame → table' ≡ table → p1 ≡ p → t1 ≡ t → Finds stages' noted' later frame' table' later_table n p1 t1 o
+    → Finds stages noted later frame table later_table n p t o
+finds_as {stages} {stages'} {noted} {noted'} {later} {frame} {frame'} {table} {table'} {later_table} {n} {p} {p1} {t} {t1} {o} a c d e g i h =
+    subst (λ (x : List Stage). Finds x noted later frame table later_table n p t o) a
+    (subst (λ (x : Asks). Finds stages' x later frame table later_table n p t o) c
+    (subst (λ (x : List Word). Finds stages' noted' later x table later_table n p t o) d
+    (subst (λ (x : List Kept). Finds stages' noted' later frame' x later_table n p t o) e
+    (subst (λ (x : ℕ). Finds stages' noted' later frame' table' later_table n x t o) g
+    (subst (λ (x : Term). Finds stages' noted' later frame' table' later_table n p1 x o) i h)))))
 
 pub remembers_as : {C : Program} {plan : Plan} {given : ℕ → Option Word} {modes : List modes_declared.Mode} {noted noted' : Asks} {table table' : List Kept} {v : ℕ} → noted' ≡ noted
     → table' ≡ table → Remembers C plan given modes noted table v → Remembers C plan given modes noted' table' v

@@ -1,12 +1,14 @@
 -- What a term comes to and wants, by its parts.
-use Rattle.std.proofs.Common.{◌≡◌, ℕ, suc, ◌+◌, ◌<◌, ◌≤◌, List, [], ◌∷◌, ◌++◌, length, take, drop, cond, Option, Some, None, Bool, true}
-use Rattle.std.proofs.Common.{false, get_or, slice_set, refl, sym, ap, ◌∙◌, subst, arith}
+use Rattle.std.proofs.Common.{◌≡◌, ℕ, zero, suc, ◌+◌, ◌<◌, ◌≤◌, List, [], ◌∷◌, ◌++◌, length, take, drop, cond, Option, Some, None, Bool, true, IsTrue, slice_get}
+use Rattle.std.proofs.Common.{false, get_or, slice_set, refl, sym, ap, ◌∙◌, subst, arith, add-one}
+use Rattle.std.proofs.lemmas.Bool.{false≢true}
 use Rattle.std.proofs.lemmas.List.{drop-set, get_or-take, get_or_read, length-take, take-take}
 use Rattle.std.proofs.Math.Seq.{take-add}
 use Rattle.safl_term.specs.Sizes.{nodes_in}
 use Rattle.safl_word.specs.Words.{Word, slot, pick, no_word}
 use Rattle.safl_word.specs.declared.primitive.Primitive.{Primitive}
 use Rattle.safl_word.proofs.Words.{pick_other}
+use Rattle.safl_word.proofs.Lists.{slice_set_here}
 use Rattle.safl_term.specs.Readiness.{Answer, Ready, LoopTo, NotYet, answer, answers, select, with_all, both, apply_to, loop_to, ready_from, word_of}
 use Rattle.safl_calls.proofs.Basics.{some_none}
 use Rattle.safl_term.specs.Terms.{Term, Const, Var, If, Let, Op, Call, Loop, Terms, Nil, Cons}
@@ -157,6 +159,30 @@ words_more F at n v true lt = ap Some (sym (ap (take (suc n)) (drop-set F at v l
 pub forest_nodes : (ts : List declared.Term) → length ts ≤ nodes_in (shown_terms ts)
 forest_nodes [] = omega arith
 forest_nodes (t ∷ ts) = omega (arith, some_nodes (shown_term t), forest_nodes ts)
+
+-- the word that was found last, where it was written
+pub slot_set : (F : List Word) (at : ℕ) (v : Word) (r : Bool) {o : Option Word} → at < length F → IsTrue r → cond r (Some v) None ≡ o → slice_get (slice_set F at v) at ≡ o
+slot_set F at v true within ready e = slice_set_here F at v within ∙ e
+slot_set F at v false within ready e = absurd (false≢true ready)
+
+-- the words of a list of terms, where that of the first was written before the others
+first_and_rest : (F G : List Word) (at n : ℕ) {o : Option Word} → slice_get F at ≡ o → at < length F → take (suc at) G ≡ take (suc at) F
+    → (v : Word) × (o ≡ Some v) × (both (Ready v) (Some (take n (drop (suc at) G))) ≡ Some (take (suc n) (drop at G)))
+first_and_rest [] G at n e within same = absurd (omega (arith, within))
+first_and_rest (x ∷ F) [] at n e within same = absurd (omega (arith, ap length same))
+first_and_rest (x ∷ F) (y ∷ G) zero n e within same = let g : y ≡ x = cc in (x, sym e, ap (λ (w : Word). Some (w ∷ take n G)) (sym g))
+first_and_rest (x ∷ F) (y ∷ G) (suc at) n e within same = let g : take (suc at) G ≡ take (suc at) F = cc in first_and_rest F G at n e (omega (arith, within)) g
+
+pub words_known : (F G : List Word) (at n : ℕ) {o : Option Word} → slice_get F at ≡ o → at < length F → take (at + 1) G ≡ take (at + 1) F
+    → (v : Word) × (o ≡ Some v) × (both (Ready v) (Some (take n (drop (at + 1) G))) ≡ Some (take (suc n) (drop at G)))
+words_known F G at n e within same =
+    let k = add-one at in
+    let r = first_and_rest F G at n e within (ap (λ (j : ℕ). take j G) (sym k) ∙ same ∙ ap (λ (j : ℕ). take j F) k) in
+    (r.0, r.1, ap (λ (j : ℕ). both (Ready r.0) (Some (take n (drop j G)))) k ∙ r.2)
+
+-- the first words of a list are those of the other too if more are
+pub take_fewer : (F G : List Word) (n m : ℕ) → n ≤ m → take m F ≡ take m G → take n F ≡ take n G
+take_fewer F G n m le e = sym (take-take n m F le) ∙ ap (take n) e ∙ take-take n m G le
 
 -- the word of a slot
 pub slot_is : (F : List Word) (n i : ℕ) (v : Word) → i < length (take n F) → v ≡ get_or F i v → v ≡ slot (take n F) i

@@ -33,124 +33,124 @@ own p (Loop m ts) = omega arith
 mutual
   unfolding Below Stands
 
-  pub below_frame : (B : ℕ → Option Word) (E : List Word) (A A1 : Asks) (W W1 : List Kept) (p : ℕ) (t : Term) → Below B E A W p t
-      → ((q : ℕ) → p < q → q < p + nodes t → cell W1 q ≡ cell W q) → ((k : ℕ) → Stands k t → get_or A1 k None ≡ get_or A k None) → Below B E A1 W1 p t
-  below_frame B E A A1 W W1 p (Const w) h c a = tt
-  below_frame B E A A1 W W1 p (Var i) h c a = tt
-  below_frame B E A A1 W W1 p (Op o ts) h c a = λ calls. below_in_frame B E A A1 W W1 (p + 1) ts (h calls) (λ q x y. c q (omega (arith, x)) (omega
+  pub below_frame : (B : ℕ → Option Word) (E : List Word) (A A' : Asks) (W W' : List Kept) (p : ℕ) (t : Term) → Below B E A W p t
+      → ((q : ℕ) → p < q → q < p + nodes t → cell W' q ≡ cell W q) → ((k : ℕ) → Stands k t → get_or A' k None ≡ get_or A k None) → Below B E A' W' p t
+  below_frame B E A A' W W' p (Const w) h c a = tt
+  below_frame B E A A' W W' p (Var i) h c a = tt
+  below_frame B E A A' W W' p (Op o ts) h c a = λ calls. below_in_frame B E A A' W W' (p + 1) ts (h calls) (λ q x y. c q (omega (arith, x)) (omega
       (arith, y))) a
-  below_frame B E A A1 W W1 p (If d x y) g c a = λ calls. let h = g calls in (
+  below_frame B E A A' W W' p (If d x y) g c a = λ calls. let h = g calls in (
     (
       subst (λ (v : Kept). IsCell B E d v) (sym (c (p + 1) (omega arith) (omega (arith, own (p + 1) d)))) h.0.0,
-      below_frame B E A A1 W W1 (p + 1) d
+      below_frame B E A A' W W' (p + 1) d
           h.0.1 (λ q m n. c q (omega (arith, m)) (omega (arith, n))) (λ k st. a k (inl st)),
     ),
     λ s. (
       subst (λ (v : Kept). IsCell B E x v) (sym (c (p + 1 + nodes d) (omega arith) (omega (arith, own (p + 1 + nodes d) x)))) (h.1 s).0,
-      below_frame B E A A1 W W1 (p + 1 + nodes d) x (h.1 s).1 (λ q m n. c q (omega (arith, m)) (omega (arith, n))) (λ k st. a k (inr (inl st))),
+      below_frame B E A A' W W' (p + 1 + nodes d) x (h.1 s).1 (λ q m n. c q (omega (arith, m)) (omega (arith, n))) (λ k st. a k (inr (inl st))),
     ),
     λ s. record { none = λ k st. a k (inr (inl st)) ∙ (h.2 s).none k st },
     λ s. (
       subst (λ (v : Kept). IsCell B E y v) (sym (c (p + 1 + nodes d + nodes x) (omega arith) (omega (arith, own (p + 1 + nodes d + nodes x) y))))
           (h.3 s).0,
-      below_frame B E A A1 W W1 (p + 1 + nodes d + nodes x) y (h.3 s).1 (λ q m n. c q (omega (arith, m)) (omega (arith, n))) (λ k st. a k (inr (inr st))),
+      below_frame B E A A' W W' (p + 1 + nodes d + nodes x) y (h.3 s).1 (λ q m n. c q (omega (arith, m)) (omega (arith, n))) (λ k st. a k (inr (inr st))),
     ),
     λ s. record { none = λ k st. a k (inr (inr st)) ∙ (h.4 s).none k st },
   )
-  below_frame B E A A1 W W1 p (Let bs x) g c a = λ calls. let h = g calls in (
-    below_in_frame B E A A1 W W1 (p + 1 + nodes x) bs h.0 (λ q m n. c q (omega (arith, m)) (omega (arith, n))) (λ k st. a k (inl st)),
+  below_frame B E A A' W W' p (Let bs x) g c a = λ calls. let h = g calls in (
+    below_in_frame B E A A' W W' (p + 1 + nodes x) bs h.0 (λ q m n. c q (omega (arith, m)) (omega (arith, n))) (λ k st. a k (inl st)),
     λ vs e. (
       subst (λ (v : Kept). IsCell B (E ++ vs) x v) (sym (c (p + 1) (omega arith) (omega (arith, own (p + 1) x)))) (h.1 vs e).0,
       below_frame B
-          (E ++ vs) A A1 W W1 (p + 1) x (h.1 vs e).1 (λ q m n. c q (omega (arith, m)) (omega (arith, n))) (λ k st. a k (inr st)),
+          (E ++ vs) A A' W W' (p + 1) x (h.1 vs e).1 (λ q m n. c q (omega (arith, m)) (omega (arith, n))) (λ k st. a k (inr st)),
     ),
     λ e. record { none = λ k st. a k (inr st) ∙ (h.2 e).none k st },
   )
-  below_frame B E A A1 W W1 p (Call f j ts) h c a = (
+  below_frame B E A A' W W' p (Call f j ts) h c a = (
     a j (inl refl) ∙ h.0,
-    below_in_frame B E A A1 W W1 (p + 1) ts h.1 (λ q m n. c q (omega (arith, m)) (omega (arith, n))) (λ k st. a k (inr st)),
+    below_in_frame B E A A' W W' (p + 1) ts h.1 (λ q m n. c q (omega (arith, m)) (omega (arith, n))) (λ k st. a k (inr st)),
   )
-  below_frame B E A A1 W W1 p (Loop m ts) h c a = λ calls. below_in_frame B E A A1 W W1 (p + 1) ts (h calls) (λ q x y. c q (omega (arith, x)) (omega
+  below_frame B E A A' W W' p (Loop m ts) h c a = λ calls. below_in_frame B E A A' W W' (p + 1) ts (h calls) (λ q x y. c q (omega (arith, x)) (omega
       (arith, y))) a
 
-  pub below_in_frame : (B : ℕ → Option Word) (E : List Word) (A A1 : Asks) (W W1 : List Kept) (p : ℕ) (ts : Terms) → BelowIn B E A W p ts
-      → ((q : ℕ) → p ≤ q → q < p + nodes_in ts → cell W1 q ≡ cell W q) → ((k : ℕ) → StandsIn k ts → get_or A1 k None ≡ get_or A k None) → BelowIn B E A1 W1 p ts
-  below_in_frame B E A A1 W W1 p Nil h c a = tt
-  below_in_frame B E A A1 W W1 p (Cons t ts) h c a = (
+  pub below_in_frame : (B : ℕ → Option Word) (E : List Word) (A A' : Asks) (W W' : List Kept) (p : ℕ) (ts : Terms) → BelowIn B E A W p ts
+      → ((q : ℕ) → p ≤ q → q < p + nodes_in ts → cell W' q ≡ cell W q) → ((k : ℕ) → StandsIn k ts → get_or A' k None ≡ get_or A k None) → BelowIn B E A' W' p ts
+  below_in_frame B E A A' W W' p Nil h c a = tt
+  below_in_frame B E A A' W W' p (Cons t ts) h c a = (
     (
       subst (λ (v : Kept). IsCell B E t v) (sym (c p (omega arith) (omega (arith, own p t)))) h.0.0,
-      below_frame B E A A1 W W1 p t h.0.1
+      below_frame B E A A' W W' p t h.0.1
           (λ q m n. c q (omega (arith, m)) (omega (arith, n))) (λ k st. a k (inl st)),
     ),
-    below_in_frame B E A A1 W W1 (p + nodes t) ts h.1 (λ q m n. c q (omega (arith, m)) (omega (arith, n))) (λ k st. a k (inr st)),
+    below_in_frame B E A A' W W' (p + nodes t) ts h.1 (λ q m n. c q (omega (arith, m)) (omega (arith, n))) (λ k st. a k (inr st)),
   )
 
-pub holds_frame : (B : ℕ → Option Word) (E : List Word) (A A1 : Asks) (W W1 : List Kept) (p : ℕ) (t : Term) → IsCell B E t (cell W p) × Below B E A W p t
-    → ((q : ℕ) → p ≤ q → q < p + nodes t → cell W1 q ≡ cell W q) → ((k : ℕ) → Stands k t → get_or A1 k None ≡ get_or A k None) → IsCell B E t (cell W1 p) × Below B E A1 W1 p t
-holds_frame B E A A1 W W1 p t h c a = (
+pub holds_frame : (B : ℕ → Option Word) (E : List Word) (A A' : Asks) (W W' : List Kept) (p : ℕ) (t : Term) → IsCell B E t (cell W p) × Below B E A W p t
+    → ((q : ℕ) → p ≤ q → q < p + nodes t → cell W' q ≡ cell W q) → ((k : ℕ) → Stands k t → get_or A' k None ≡ get_or A k None) → IsCell B E t (cell W' p) × Below B E A' W' p t
+holds_frame B E A A' W W' p t h c a = (
   subst (λ (x : Kept). IsCell B E t x) (sym (c p (omega arith) (own p t))) h.0,
-  below_frame B E A A1 W W1 p t h.1 (λ q x y. c q (omega (arith, x)) y) a,
+  below_frame B E A A' W W' p t h.1 (λ q x y. c q (omega (arith, x)) y) a,
 )
 
 -- ---- the same words of the sites that stand in a term
 
-cell_local : (B B1 : ℕ → Option Word) (E : List Word) (t : Term) (x : Kept) → IsCell B E t x → ((k : ℕ) → Stands k t → B k ≡ B1 k) → IsCell B1 E t x
+cell_local : (B B' : ℕ → Option Word) (E : List Word) (t : Term) (x : Kept) → IsCell B E t x → ((k : ℕ) → Stands k t → B k ≡ B' k) → IsCell B' E t x
 unfolding Stands
-cell_local B B1 E (Const w) x h b = tt
-cell_local B B1 E (Var i) x h b = tt
-cell_local B B1 E (Op o ts) x h b = h ∙ ap word_of (answer_local B B1 E (Op o ts) b)
-cell_local B B1 E (If d u v) x h b = (h.0 ∙ ap word_of (answer_local B B1 E (If d u v) b), h.1 ∙ ap (λ q. is_some (word_of q)) (answer_local B B1 E d (λ k st. b k (inl st))))
-cell_local B B1 E (Let bs u) x h b = (h.0 ∙ ap word_of (answer_local B B1 E (Let bs u) b), h.1 ∙ ap is_some (all_local B B1 E bs (λ k st. b k (inl st))))
-cell_local B B1 E (Call f j ts) x h b = h ∙ b j (inl refl)
-cell_local B B1 E (Loop m ts) x h b = h
+cell_local B B' E (Const w) x h b = tt
+cell_local B B' E (Var i) x h b = tt
+cell_local B B' E (Op o ts) x h b = h ∙ ap word_of (answer_local B B' E (Op o ts) b)
+cell_local B B' E (If d u v) x h b = (h.0 ∙ ap word_of (answer_local B B' E (If d u v) b), h.1 ∙ ap (λ q. is_some (word_of q)) (answer_local B B' E d (λ k st. b k (inl st))))
+cell_local B B' E (Let bs u) x h b = (h.0 ∙ ap word_of (answer_local B B' E (Let bs u) b), h.1 ∙ ap is_some (all_local B B' E bs (λ k st. b k (inl st))))
+cell_local B B' E (Call f j ts) x h b = h ∙ b j (inl refl)
+cell_local B B' E (Loop m ts) x h b = h
 
 mutual
   unfolding Below Stands
 
-  pub below_local : (B B1 : ℕ → Option Word) (E : List Word) (A : Asks) (W : List Kept) (p : ℕ) (t : Term) → Below B E A W p t → ((k : ℕ) → Stands k t → B k ≡ B1 k) → Below B1 E A W p t
-  below_local B B1 E A W p (Const w) h b = tt
-  below_local B B1 E A W p (Var i) h b = tt
-  below_local B B1 E A W p (Op o ts) h b = λ calls. below_in_local B B1 E A W (p + 1) ts (h calls) b
-  below_local B B1 E A W p (If d x y) g b = λ calls.
+  pub below_local : (B B' : ℕ → Option Word) (E : List Word) (A : Asks) (W : List Kept) (p : ℕ) (t : Term) → Below B E A W p t → ((k : ℕ) → Stands k t → B k ≡ B' k) → Below B' E A W p t
+  below_local B B' E A W p (Const w) h b = tt
+  below_local B B' E A W p (Var i) h b = tt
+  below_local B B' E A W p (Op o ts) h b = λ calls. below_in_local B B' E A W (p + 1) ts (h calls) b
+  below_local B B' E A W p (If d x y) g b = λ calls.
       let h = g calls in
-      let same : answer B1 E d ≡ answer B E d = sym (answer_local B B1 E d (λ k st. b k (inl st))) in (
-        (cell_local B B1 E d (cell W (p + 1)) h.0.0 (λ k st. b k (inl st)), below_local B B1 E A W (p + 1) d h.0.1 (λ k st. b k (inl st))),
+      let same : answer B' E d ≡ answer B E d = sym (answer_local B B' E d (λ k st. b k (inl st))) in (
+        (cell_local B B' E d (cell W (p + 1)) h.0.0 (λ k st. b k (inl st)), below_local B B' E A W (p + 1) d h.0.1 (λ k st. b k (inl st))),
         λ s. (
-          cell_local B B1 E x (cell W (p + 1 + nodes d)) (h.1 (subst (λ q. SelectsFirst q) same s)).0 (λ k st. b k (inr (inl st))),
+          cell_local B B' E x (cell W (p + 1 + nodes d)) (h.1 (subst (λ q. SelectsFirst q) same s)).0 (λ k st. b k (inr (inl st))),
           below_local B
-              B1 E A W (p + 1 + nodes d) x (h.1 (subst (λ q. SelectsFirst q) same s)).1 (λ k st. b k (inr (inl st))),
+              B' E A W (p + 1 + nodes d) x (h.1 (subst (λ q. SelectsFirst q) same s)).1 (λ k st. b k (inr (inl st))),
         ),
         λ s. h.2 (λ z. s (subst (λ q. SelectsFirst q) (sym same) z)),
         λ s. (
-          cell_local B B1 E y (cell W (p + 1 + nodes d + nodes x)) (h.3 (subst (λ q. SelectsSecond q) same s)).0 (λ k st. b k (inr (inr st))),
-          below_local B B1 E A W (p + 1 + nodes d + nodes x) y (h.3 (subst (λ q. SelectsSecond q) same s)).1 (λ k st. b k (inr (inr st))),
+          cell_local B B' E y (cell W (p + 1 + nodes d + nodes x)) (h.3 (subst (λ q. SelectsSecond q) same s)).0 (λ k st. b k (inr (inr st))),
+          below_local B B' E A W (p + 1 + nodes d + nodes x) y (h.3 (subst (λ q. SelectsSecond q) same s)).1 (λ k st. b k (inr (inr st))),
         ),
         λ s. h.4 (λ z. s (subst (λ q. SelectsSecond q) (sym same) z)),
       )
-  below_local B B1 E A W p (Let bs x) g b = λ calls.
+  below_local B B' E A W p (Let bs x) g b = λ calls.
       let h = g calls in
-      let same : answers B E bs ≡ answers B1 E bs = all_local B B1 E bs (λ k st. b k (inl st)) in (
-        below_in_local B B1 E A W (p + 1 + nodes x) bs h.0 (λ k st. b k (inl st)),
-        λ vs e. (cell_local B B1 (E ++ vs) x (cell W (p + 1)) (h.1 vs (same ∙ e)).0 (λ k st. b k (inr st)), below_local B B1 (E ++ vs) A W (p + 1) x (h.1 vs (same ∙ e)).1 (λ k st. b k (inr st))),
+      let same : answers B E bs ≡ answers B' E bs = all_local B B' E bs (λ k st. b k (inl st)) in (
+        below_in_local B B' E A W (p + 1 + nodes x) bs h.0 (λ k st. b k (inl st)),
+        λ vs e. (cell_local B B' (E ++ vs) x (cell W (p + 1)) (h.1 vs (same ∙ e)).0 (λ k st. b k (inr st)), below_local B B' (E ++ vs) A W (p + 1) x (h.1 vs (same ∙ e)).1 (λ k st. b k (inr st))),
         λ e. h.2 (same ∙ e),
       )
-  below_local B B1 E A W p (Call f j ts) h b = (h.0 ∙ all_local B B1 E ts (λ k st. b k (inr st)), below_in_local B B1 E A W (p + 1) ts h.1 (λ k st. b k (inr st)))
-  below_local B B1 E A W p (Loop m ts) h b = λ calls. below_in_local B B1 E A W (p + 1) ts (h calls) b
+  below_local B B' E A W p (Call f j ts) h b = (h.0 ∙ all_local B B' E ts (λ k st. b k (inr st)), below_in_local B B' E A W (p + 1) ts h.1 (λ k st. b k (inr st)))
+  below_local B B' E A W p (Loop m ts) h b = λ calls. below_in_local B B' E A W (p + 1) ts (h calls) b
 
-  pub below_in_local : (B B1 : ℕ → Option Word) (E : List Word) (A : Asks) (W : List Kept) (p : ℕ) (ts : Terms) → BelowIn B E A W p ts → ((k : ℕ) → StandsIn k ts → B k ≡ B1 k) → BelowIn B1 E A W p ts
-  below_in_local B B1 E A W p Nil h b = tt
-  below_in_local B B1 E A W p (Cons t ts) h b = (
+  pub below_in_local : (B B' : ℕ → Option Word) (E : List Word) (A : Asks) (W : List Kept) (p : ℕ) (ts : Terms) → BelowIn B E A W p ts → ((k : ℕ) → StandsIn k ts → B k ≡ B' k) → BelowIn B' E A W p ts
+  below_in_local B B' E A W p Nil h b = tt
+  below_in_local B B' E A W p (Cons t ts) h b = (
     (
-      cell_local B B1 E t (cell W p) h.0.0 (λ k st. b k (inl st)),
-      below_local B B1 E A W p t h.0.1
+      cell_local B B' E t (cell W p) h.0.0 (λ k st. b k (inl st)),
+      below_local B B' E A W p t h.0.1
           (λ k st. b k (inl st)),
     ),
-    below_in_local B B1 E A W (p + nodes t) ts h.1 (λ k st. b k (inr st)),
+    below_in_local B B' E A W (p + nodes t) ts h.1 (λ k st. b k (inr st)),
   )
 
-pub holds_local : (B B1 : ℕ → Option Word) (E : List Word) (A : Asks) (W : List Kept) (p : ℕ) (t : Term) → IsCell B E t (cell W p) × Below B E A W p t
-    → ((k : ℕ) → Stands k t → B k ≡ B1 k) → IsCell B1 E t (cell W p) × Below B1 E A W p t
-holds_local B B1 E A W p t h b = (cell_local B B1 E t (cell W p) h.0 b, below_local B B1 E A W p t h.1 b)
+pub holds_local : (B B' : ℕ → Option Word) (E : List Word) (A : Asks) (W : List Kept) (p : ℕ) (t : Term) → IsCell B E t (cell W p) × Below B E A W p t
+    → ((k : ℕ) → Stands k t → B k ≡ B' k) → IsCell B' E t (cell W p) × Below B' E A W p t
+holds_local B B' E A W p t h b = (cell_local B B' E t (cell W p) h.0 b, below_local B B' E A W p t h.1 b)
 
 -- ---- what is wanted is what was asked for
 

@@ -12,56 +12,56 @@ use Rattle.safl_evaluate.specs.Laying.{nowhere, place, IsPlace, IsRoom, Laid, La
 
 -- ---- the same places
 
-own_frame : (P P1 : List Place) (p : ℕ) (t : Term) → IsPlace (place P p) p t → ((q : ℕ) → p ≤ q → q < p + nodes t → place P1 q ≡ place P q) → IsPlace (place P1 p) p t
-own_frame P P1 p t h c = subst (λ (x : Place). IsPlace x p t) (sym (c p (omega arith) (omega (arith, some_nodes t)))) h
+own_frame : (P P' : List Place) (p : ℕ) (t : Term) → IsPlace (place P p) p t → ((q : ℕ) → p ≤ q → q < p + nodes t → place P' q ≡ place P q) → IsPlace (place P' p) p t
+own_frame P P' p t h c = subst (λ (x : Place). IsPlace x p t) (sym (c p (omega arith) (omega (arith, some_nodes t)))) h
 
 mutual
   unfolding LaidBelow
 
-  pub laid_below_frame : (P P1 : List Place) (p : ℕ) (t : Term) → LaidBelow P p t → ((q : ℕ) → p < q → q < p + nodes t → place P1 q ≡ place P q) → LaidBelow P1 p t
-  laid_below_frame P P1 p (Const w) h c = tt
-  laid_below_frame P P1 p (Var i) h c = tt
-  laid_below_frame P P1 p (Op o ts) h c = laid_in_frame P P1 (p + 1) ts h (λ q x y. c q (omega (arith, x)) (omega (arith, y)))
-  laid_below_frame P P1 p (If d x y) h c = (
-    (own_frame P P1 (p + 1) d h.0.0 (λ q m n. c q (omega (arith, m)) (omega (arith, n))), laid_below_frame P P1 (p + 1) d h.0.1 (λ q m n. c q (omega (arith, m)) (omega (arith, n)))),
+  pub laid_below_frame : (P P' : List Place) (p : ℕ) (t : Term) → LaidBelow P p t → ((q : ℕ) → p < q → q < p + nodes t → place P' q ≡ place P q) → LaidBelow P' p t
+  laid_below_frame P P' p (Const w) h c = tt
+  laid_below_frame P P' p (Var i) h c = tt
+  laid_below_frame P P' p (Op o ts) h c = laid_in_frame P P' (p + 1) ts h (λ q x y. c q (omega (arith, x)) (omega (arith, y)))
+  laid_below_frame P P' p (If d x y) h c = (
+    (own_frame P P' (p + 1) d h.0.0 (λ q m n. c q (omega (arith, m)) (omega (arith, n))), laid_below_frame P P' (p + 1) d h.0.1 (λ q m n. c q (omega (arith, m)) (omega (arith, n)))),
     (
-      own_frame P P1 (p + 1 + nodes d) x h.1.0 (λ q m n. c q (omega (arith, m)) (omega (arith, n))),
-      laid_below_frame P P1 (p + 1 + nodes d) x h.1.1
+      own_frame P P' (p + 1 + nodes d) x h.1.0 (λ q m n. c q (omega (arith, m)) (omega (arith, n))),
+      laid_below_frame P P' (p + 1 + nodes d) x h.1.1
           (λ q m n. c q (omega (arith, m)) (omega (arith, n))),
     ),
     (
-      own_frame P P1 (p + 1 + nodes d + nodes x) y h.2.0 (λ q m n. c q (omega (arith, m)) (omega (arith, n))),
-      laid_below_frame P P1
+      own_frame P P' (p + 1 + nodes d + nodes x) y h.2.0 (λ q m n. c q (omega (arith, m)) (omega (arith, n))),
+      laid_below_frame P P'
           (p + 1 + nodes d + nodes x) y h.2.1 (λ q m n. c q (omega (arith, m)) (omega (arith, n))),
     ),
   )
-  laid_below_frame P P1 p (Let ts x) h c = (
-    laid_in_frame P P1 (p + 1 + nodes x) ts h.0 (λ q m n. c q (omega (arith, m)) (omega (arith, n))),
-    own_frame P P1 (p + 1) x h.1 (λ q m n. c q (omega (arith, m)) (omega (arith, n))),
-    laid_below_frame P P1 (p + 1) x h.2 (λ q m n. c q (omega (arith, m)) (omega (arith, n))),
+  laid_below_frame P P' p (Let ts x) h c = (
+    laid_in_frame P P' (p + 1 + nodes x) ts h.0 (λ q m n. c q (omega (arith, m)) (omega (arith, n))),
+    own_frame P P' (p + 1) x h.1 (λ q m n. c q (omega (arith, m)) (omega (arith, n))),
+    laid_below_frame P P' (p + 1) x h.2 (λ q m n. c q (omega (arith, m)) (omega (arith, n))),
   )
-  laid_below_frame P P1 p (Call f k ts) h c = laid_in_frame P P1 (p + 1) ts h (λ q x y. c q (omega (arith, x)) (omega (arith, y)))
-  laid_below_frame P P1 p (Loop m ts) h c = laid_in_frame P P1 (p + 1) ts h (λ q x y. c q (omega (arith, x)) (omega (arith, y)))
+  laid_below_frame P P' p (Call f k ts) h c = laid_in_frame P P' (p + 1) ts h (λ q x y. c q (omega (arith, x)) (omega (arith, y)))
+  laid_below_frame P P' p (Loop m ts) h c = laid_in_frame P P' (p + 1) ts h (λ q x y. c q (omega (arith, x)) (omega (arith, y)))
 
-  pub laid_in_frame : (P P1 : List Place) (p : ℕ) (ts : Terms) → LaidIn P p ts → ((q : ℕ) → p ≤ q → q < p + nodes_in ts → place P1 q ≡ place P q) → LaidIn P1 p ts
-  laid_in_frame P P1 p Nil h c = tt
-  laid_in_frame P P1 p (Cons t ts) h c = (
-    (own_frame P P1 p t h.0.0 (λ q m n. c q (omega (arith, m)) (omega (arith, n))), laid_below_frame P P1 p t h.0.1 (λ q m n. c q (omega (arith, m)) (omega (arith, n)))),
-    laid_in_frame P P1 (p + nodes t) ts h.1 (λ q m n. c q (omega (arith, m)) (omega (arith, n))),
+  pub laid_in_frame : (P P' : List Place) (p : ℕ) (ts : Terms) → LaidIn P p ts → ((q : ℕ) → p ≤ q → q < p + nodes_in ts → place P' q ≡ place P q) → LaidIn P' p ts
+  laid_in_frame P P' p Nil h c = tt
+  laid_in_frame P P' p (Cons t ts) h c = (
+    (own_frame P P' p t h.0.0 (λ q m n. c q (omega (arith, m)) (omega (arith, n))), laid_below_frame P P' p t h.0.1 (λ q m n. c q (omega (arith, m)) (omega (arith, n)))),
+    laid_in_frame P P' (p + nodes t) ts h.1 (λ q m n. c q (omega (arith, m)) (omega (arith, n))),
   )
 
-pub laid_frame : (P P1 : List Place) (p : ℕ) (t : Term) → Laid P p t → ((q : ℕ) → p ≤ q → q < p + nodes t → place P1 q ≡ place P q) → Laid P1 p t
-laid_frame P P1 p t h c = (own_frame P P1 p t h.0 c, laid_below_frame P P1 p t h.1 (λ q x y. c q (omega (arith, x)) y))
+pub laid_frame : (P P' : List Place) (p : ℕ) (t : Term) → Laid P p t → ((q : ℕ) → p ≤ q → q < p + nodes t → place P' q ≡ place P q) → Laid P' p t
+laid_frame P P' p t h c = (own_frame P P' p t h.0 c, laid_below_frame P P' p t h.1 (λ q x y. c q (omega (arith, x)) y))
 
 -- what lies before what was laid, and after it
-pub laid_still : {P P1 : List Place} {f u : ℕ} (p : ℕ) (t : Term) → SameOutside f u P P1 → (p + nodes t ≤ f) ⊎ (u ≤ p) → Laid P p t → Laid P1 p t
-laid_still {P} {P1} p t o (inl e) h = laid_frame P P1 p t h (λ q x y. o.below q (omega (arith, e, y)))
-laid_still {P} {P1} p t o (inr e) h = laid_frame P P1 p t h (λ q x y. o.above q (omega (arith, e, x)))
+pub laid_still : {P P' : List Place} {f u : ℕ} (p : ℕ) (t : Term) → SameOutside f u P P' → (p + nodes t ≤ f) ⊎ (u ≤ p) → Laid P p t → Laid P' p t
+laid_still {P} {P'} p t o (inl e) h = laid_frame P P' p t h (λ q x y. o.below q (omega (arith, e, y)))
+laid_still {P} {P'} p t o (inr e) h = laid_frame P P' p t h (λ q x y. o.above q (omega (arith, e, x)))
 
-pub outside_more : {f u g v : ℕ} {P P1 : List Place} → SameOutside f u P P1 → g ≤ f → u ≤ v → SameOutside g v P P1
+pub outside_more : {f u g v : ℕ} {P P' : List Place} → SameOutside f u P P' → g ≤ f → u ≤ v → SameOutside g v P P'
 outside_more o x y = record { below = λ q m. o.below q (omega (arith, m, x)); above = λ q m. o.above q (omega (arith, m, y)) }
 
-pub outside_both : {f u : ℕ} {P P1 P2 : List Place} → SameOutside f u P P1 → SameOutside f u P1 P2 → SameOutside f u P P2
+pub outside_both : {f u : ℕ} {P P' P'' : List Place} → SameOutside f u P P' → SameOutside f u P' P'' → SameOutside f u P P''
 outside_both h i = record { below = λ q m. i.below q m ∙ h.below q m; above = λ q m. i.above q m ∙ h.above q m }
 
 -- ---- the place of a term, by those of its parts
@@ -138,23 +138,24 @@ room_more {r} {a} {b} {p} {t} {ts} ha hb ca cb e f g = record {
 
 -- ---- the parts of a term that were laid one after the other
 
-pub laid_if : {P1 P2 P3 : List Place} (p : ℕ) (c x y : Term) → Laid P1 (p + 1) c → Laid P2 (p + 1 + nodes c) x → Laid P3 (p + 1 + nodes c + nodes x) y
-    → SameOutside (p + 1 + nodes c) (p + 1 + nodes c + nodes x) P1 P2 → SameOutside (p + 1 + nodes c + nodes x) (p + 1 + nodes c + nodes x + nodes y) P2 P3 → LaidBelow P3 p (If c x y)
+pub laid_if : {P' P'' P''' : List Place} (p : ℕ) (c x y : Term) → Laid P' (p + 1) c → Laid P'' (p + 1 + nodes c) x → Laid P''' (p + 1 + nodes c + nodes x) y
+    → SameOutside (p + 1 + nodes c) (p + 1 + nodes c + nodes x) P' P'' → SameOutside (p + 1 + nodes c + nodes x) (p + 1 + nodes c + nodes x + nodes y) P'' P''' → LaidBelow P''' p (If c x y)
 unfolding LaidBelow
-laid_if {P1} {P2} {P3} p c x y hc hx hy o2 o3 = (
+laid_if {P'} {P''} {P'''} p c x y hc hx hy o2 o3 = (
   laid_still (p + 1) c o3 (inl (omega arith)) (laid_still (p + 1) c o2 (inl (omega arith)) hc),
   laid_still (p + 1 + nodes c) x o3 (inl (omega arith)) hx,
   hy,
 )
 
-pub laid_let : {P1 P2 : List Place} (p : ℕ) (ts : Terms) (x : Term) → Laid P1 (p + 1) x → LaidIn P2 (p + 1 + nodes x) ts → SameOutside
-    (p + 1 + nodes x) (p + 1 + nodes x + nodes_in ts) P1 P2 → LaidBelow P2 p (Let ts x)
+pub laid_let : {P' P'' : List Place} (p : ℕ) (ts : Terms) (x : Term) → Laid P' (p + 1) x → LaidIn P'' (p + 1 + nodes x) ts → SameOutside
+    (p + 1 + nodes x) (p + 1 + nodes x + nodes_in ts) P' P'' → LaidBelow P'' p (Let ts x)
 unfolding LaidBelow
-laid_let {P1} {P2} p ts x hx hs o = let body = laid_still (p + 1) x o (inl (omega arith)) hx in (hs, body.0, body.1)
+laid_let {P'} {P''} p ts x hx hs o = let body = laid_still (p + 1) x o (inl (omega arith)) hx in (hs, body.0, body.1)
 
-pub laid_more : {P1 P2 : List Place} (p : ℕ) (t : Term) (ts : Terms) → Laid P1 p t → LaidIn P2 (p + nodes t) ts → SameOutside (p + nodes t) (p + nodes t + nodes_in ts) P1 P2 → LaidIn P2 p (Cons t ts)
+pub laid_more : {P' P'' : List Place} (p : ℕ) (t : Term) (ts : Terms) → Laid P' p t → LaidIn P'' (p + nodes t) ts → SameOutside (p + nodes t) (p + nodes t + nodes_in ts) P' P''
+    → LaidIn P'' p (Cons t ts)
 unfolding LaidBelow
-laid_more {P1} {P2} p t ts ht hs o = (laid_still p t o (inl (omega arith)) ht, hs)
+laid_more {P'} {P''} p t ts ht hs o = (laid_still p t o (inl (omega arith)) ht, hs)
 
 -- ---- a term whose own place is noted last
 
@@ -164,10 +165,10 @@ laid_own P V p t x below is lt e = (
   laid_below_frame P V p t below (λ q m n. ap (λ (l : List Place). place l q) e ∙ get_or-set_other P p q x nowhere (omega (arith, m))),
 )
 
-pub outside_own : {P P1 V : List Place} (p u : ℕ) (x : Place) → SameOutside (p + 1) u P P1 → p < u → V ≡ slice_set P1 p x → SameOutside p u P V
-outside_own {P} {P1} {V} p u x o lt e = record {
-  below = λ q m. ap (λ (l : List Place). place l q) e ∙ (get_or-set_other P1 p q x nowhere (omega (arith, m)) ∙ o.below q (omega (arith, m)));
-  above = λ q m. ap (λ (l : List Place). place l q) e ∙ (get_or-set_other P1 p q x nowhere (omega (arith, m, lt)) ∙ o.above q m);
+pub outside_own : {P P' V : List Place} (p u : ℕ) (x : Place) → SameOutside (p + 1) u P P' → p < u → V ≡ slice_set P' p x → SameOutside p u P V
+outside_own {P} {P'} {V} p u x o lt e = record {
+  below = λ q m. ap (λ (l : List Place). place l q) e ∙ (get_or-set_other P' p q x nowhere (omega (arith, m)) ∙ o.below q (omega (arith, m)));
+  above = λ q m. ap (λ (l : List Place). place l q) e ∙ (get_or-set_other P' p q x nowhere (omega (arith, m, lt)) ∙ o.above q m);
 }
 
 -- ---- a term that is known under another name, and parts that lie where others end
@@ -196,8 +197,8 @@ laid_at P t e h = subst (λ (i : ℕ). Laid P i t) e h
 pub laid_in_at : (P : List Place) {p q : ℕ} (ts : Terms) → q ≡ p → LaidIn P q ts → LaidIn P p ts
 laid_in_at P ts e h = subst (λ (i : ℕ). LaidIn P i ts) e h
 
-pub outside_at : {P P1 : List Place} {p q : ℕ} (n : ℕ) → q ≡ p → SameOutside q (q + n) P P1 → SameOutside p (p + n) P P1
-outside_at {P} {P1} n e h = subst (λ (i : ℕ). SameOutside i (i + n) P P1) e h
+pub outside_at : {P P' : List Place} {p q : ℕ} (n : ℕ) → q ≡ p → SameOutside q (q + n) P P' → SameOutside p (p + n) P P'
+outside_at {P} {P'} n e h = subst (λ (i : ℕ). SameOutside i (i + n) P P') e h
 
 pub below_const : (P : List Place) (p : ℕ) (w : Word) → LaidBelow P p (Const w)
 unfolding LaidBelow

@@ -38,10 +38,10 @@ Asks = List (Option (List Word))
 pub only_none : {f u : ℕ} {s : ℕ → Type 0} {A : Asks} {W : List Kept} → Only f u s A A W W
 only_none = record { below = λ q x. refl; above = λ q x. refl; asks = λ k x. refl }
 
-pub only_more : {f u g v : ℕ} {s r : ℕ → Type 0} {A A1 : Asks} {W W1 : List Kept} → Only f u s A A1 W W1 → g ≤ f → u ≤ v → ((k : ℕ) → s k → r k) → Only g v r A A1 W W1
+pub only_more : {f u g v : ℕ} {s r : ℕ → Type 0} {A A' : Asks} {W W' : List Kept} → Only f u s A A' W W' → g ≤ f → u ≤ v → ((k : ℕ) → s k → r k) → Only g v r A A' W W'
 only_more h x y z = record { below = λ q m. h.below q (omega (arith, m, x)); above = λ q m. h.above q (omega (arith, m, y)); asks = λ k m. h.asks k (λ i. m (z k i)) }
 
-pub only_both : {f u : ℕ} {s : ℕ → Type 0} {A A1 A2 : Asks} {W W1 W2 : List Kept} → Only f u s A A1 W W1 → Only f u s A1 A2 W1 W2 → Only f u s A A2 W W2
+pub only_both : {f u : ℕ} {s : ℕ → Type 0} {A A' A'' : Asks} {W W' W'' : List Kept} → Only f u s A A' W W' → Only f u s A' A'' W' W'' → Only f u s A A'' W W''
 only_both h i = record { below = λ q m. i.below q m ∙ h.below q m; above = λ q m. i.above q m ∙ h.above q m; asks = λ k m. i.asks k m ∙ h.asks k m }
 
 pub only_own : {p : ℕ} {s : ℕ → Type 0} {A : Asks} {W : List Kept} (x : Kept) → Only p (p + 1) s A A W (slice_set W p x)
@@ -51,28 +51,28 @@ only_own {p} {s} {A} {W} x = record {
   asks = λ k m. refl;
 }
 
-module _ {f u : ℕ} {s : ℕ → Type 0} {A A1 : Asks} {W W1 : List Kept} (o : Only f u s A A1 W W1) where
-  range : (p n : ℕ) → (p + n ≤ f) ⊎ (u ≤ p) → (q : ℕ) → p ≤ q → q < p + n → cell W1 q ≡ cell W q
+module _ {f u : ℕ} {s : ℕ → Type 0} {A A' : Asks} {W W' : List Kept} (o : Only f u s A A' W W') where
+  range : (p n : ℕ) → (p + n ≤ f) ⊎ (u ≤ p) → (q : ℕ) → p ≤ q → q < p + n → cell W' q ≡ cell W q
   range p n (inl e) q x y = o.below q (omega (arith, e, y))
   range p n (inr e) q x y = o.above q (omega (arith, e, x))
 
-  pub holds_still : (B : ℕ → Option Word) (E : List Word) (p : ℕ) (t : Term) → Holds B E A W p t → (p + nodes t ≤ f) ⊎ (u ≤ p) → ((k : ℕ) → Stands k t → s k → ⊥) → Holds B E A1 W1 p t
-  holds_still B E p t h e apart = holds_frame B E A A1 W W1 p t h (range p (nodes t) e) (λ k st. o.asks k (apart k st))
+  pub holds_still : (B : ℕ → Option Word) (E : List Word) (p : ℕ) (t : Term) → Holds B E A W p t → (p + nodes t ≤ f) ⊎ (u ≤ p) → ((k : ℕ) → Stands k t → s k → ⊥) → Holds B E A' W' p t
+  holds_still B E p t h e apart = holds_frame B E A A' W W' p t h (range p (nodes t) e) (λ k st. o.asks k (apart k st))
 
   pub below_in_still : (B : ℕ → Option Word) (E : List Word) (p : ℕ) (ts : Terms) → BelowIn B E A W p ts → (p + nodes_in ts ≤ f) ⊎ (u ≤ p) →
-      ((k : ℕ) → StandsIn k ts → s k → ⊥) → BelowIn B E A1 W1 p ts
-  below_in_still B E p ts h e apart = below_in_frame B E A A1 W W1 p ts h (range p (nodes_in ts) e) (λ k st. o.asks k (apart k st))
+      ((k : ℕ) → StandsIn k ts → s k → ⊥) → BelowIn B E A' W' p ts
+  below_in_still B E p ts h e apart = below_in_frame B E A A' W W' p ts h (range p (nodes_in ts) e) (λ k st. o.asks k (apart k st))
 
-  pub unasked_still : {t : Term} → Unasked A t → ((k : ℕ) → Stands k t → s k → ⊥) → Unasked A1 t
+  pub unasked_still : {t : Term} → Unasked A t → ((k : ℕ) → Stands k t → s k → ⊥) → Unasked A' t
   unasked_still h apart = record { none = λ k st. o.asks k (apart k st) ∙ h.none k st }
 
-  pub unasked_in_still : {ts : Terms} → UnaskedIn A ts → ((k : ℕ) → StandsIn k ts → s k → ⊥) → UnaskedIn A1 ts
+  pub unasked_in_still : {ts : Terms} → UnaskedIn A ts → ((k : ℕ) → StandsIn k ts → s k → ⊥) → UnaskedIn A' ts
   unasked_in_still h apart = record { none = λ k st. o.asks k (apart k st) ∙ h.none k st }
 
 -- the same places
-pub below_in_same : (B : ℕ → Option Word) (E : List Word) (A A1 : Asks) (W : List Kept) (p : ℕ) (ts : Terms) → BelowIn B E A W p ts →
-    ((k : ℕ) → StandsIn k ts → get_or A1 k None ≡ get_or A k None) → BelowIn B E A1 W p ts
-below_in_same B E A A1 W p ts h a = below_in_frame B E A A1 W W p ts h (λ q x y. refl) a
+pub below_in_same : (B : ℕ → Option Word) (E : List Word) (A A' : Asks) (W : List Kept) (p : ℕ) (ts : Terms) → BelowIn B E A W p ts →
+    ((k : ℕ) → StandsIn k ts → get_or A' k None ≡ get_or A k None) → BelowIn B E A' W p ts
+below_in_same B E A A' W p ts h a = below_in_frame B E A A' W W p ts h (λ q x y. refl) a
 
 -- ---- before site k returned
 
@@ -187,42 +187,42 @@ module _ (B : ℕ → Option Word) (E : List Word) (A : Asks) (W : List Kept) (p
       by None e = (h.1 calls).2 e
       by (Some vs) e = absurd (some_none vs (sym (grown_all B E k ts vs e) ∙ none))
 
-  module _ {A1 : Asks} {W1 : List Kept} where
+  module _ {A' : Asks} {W' : List Kept} where
     pub stood_then : (news : Option ℕ) (c a b : Term) → IsAnew news (If c a b) → Once (If c a b) → Stood B news E A W p (If c a b)
-        → SelectsFirst (answer B E c) → Only (p + 1) (p + 1 + nodes c) (λ k. Stands k c) A A1 W W1
-        → Stood B (cond (is_open (cell W1 p)) news None) E A1 W1 (p + 1 + nodes c) a
+        → SelectsFirst (answer B E c) → Only (p + 1) (p + 1 + nodes c) (λ k. Stands k c) A A' W W'
+        → Stood B (cond (is_open (cell W' p)) news None) E A' W' (p + 1 + nodes c) a
     unfolding Below BelowIn Stands StandsIn Once OnceIn
-    stood_then None c a b anew once h s o = by (is_open (cell W1 p))
+    stood_then None c a b anew once h s o = by (is_open (cell W' p))
       where
-        fresh : Unasked A1 a
+        fresh : Unasked A' a
         fresh = unasked_still o (record { none = λ k st. h.none k (inr (inl st)) }) (λ k st z. once.3 k z (inl st))
 
-        by : (x : Bool) → Stood B (cond x None None) E A1 W1 (p + 1 + nodes c) a
+        by : (x : Bool) → Stood B (cond x None None) E A' W' (p + 1 + nodes c) a
         by true = fresh
         by false = fresh
-    stood_then (Some k) c a b anew once h s o = by (is_open (cell W1 p)) (ap is_open (o.below p (omega arith)) ∙ h.0.1)
+    stood_then (Some k) c a b anew once h s o = by (is_open (cell W' p)) (ap is_open (o.below p (omega arith)) ∙ h.0.1)
       where
-        by : (x : Bool) → x ≡ is_some (word_of (answer (without B k) E c)) → Stood B (cond x (Some k) None) E A1 W1 (p + 1 + nodes c) a
+        by : (x : Bool) → x ≡ is_some (word_of (answer (without B k) E c)) → Stood B (cond x (Some k) None) E A' W' (p + 1 + nodes c) a
         by true e = holds_still o (without B k) E _ _ ((h.1 (not_body k (If c a b) anew)).1 (was_first B E k c s (sym e))) (inr (omega arith))
             (λ j st z. once.3 j z (inl st))
         by false e = unasked_still o ((h.1 (not_body k (If c a b) anew)).2 (λ z. false≢true (e
             ∙ ap (λ q. is_some (word_of q)) z.1))) (λ j st z. once.3 j z (inl st))
 
     pub stood_else : (news : Option ℕ) (c a b : Term) → IsAnew news (If c a b) → Once (If c a b) → Stood B news E A W p (If c a b)
-        → SelectsSecond (answer B E c) → Only (p + 1) (p + 1 + nodes c) (λ k. Stands k c) A A1 W W1
-        → Stood B (cond (is_open (cell W1 p)) news None) E A1 W1 (p + 1 + nodes c + nodes a) b
+        → SelectsSecond (answer B E c) → Only (p + 1) (p + 1 + nodes c) (λ k. Stands k c) A A' W W'
+        → Stood B (cond (is_open (cell W' p)) news None) E A' W' (p + 1 + nodes c + nodes a) b
     unfolding Below BelowIn Stands StandsIn Once OnceIn
-    stood_else None c a b anew once h s o = by (is_open (cell W1 p))
+    stood_else None c a b anew once h s o = by (is_open (cell W' p))
       where
-        fresh : Unasked A1 b
+        fresh : Unasked A' b
         fresh = unasked_still o (record { none = λ k st. h.none k (inr (inr st)) }) (λ k st z. once.3 k z (inr st))
 
-        by : (x : Bool) → Stood B (cond x None None) E A1 W1 (p + 1 + nodes c + nodes a) b
+        by : (x : Bool) → Stood B (cond x None None) E A' W' (p + 1 + nodes c + nodes a) b
         by true = fresh
         by false = fresh
-    stood_else (Some k) c a b anew once h s o = by (is_open (cell W1 p)) (ap is_open (o.below p (omega arith)) ∙ h.0.1)
+    stood_else (Some k) c a b anew once h s o = by (is_open (cell W' p)) (ap is_open (o.below p (omega arith)) ∙ h.0.1)
       where
-        by : (x : Bool) → x ≡ is_some (word_of (answer (without B k) E c)) → Stood B (cond x (Some k) None) E A1 W1 (p + 1 + nodes c + nodes a) b
+        by : (x : Bool) → x ≡ is_some (word_of (answer (without B k) E c)) → Stood B (cond x (Some k) None) E A' W' (p + 1 + nodes c + nodes a) b
         by true e = holds_still o (without B k) E _ _ ((h.1 (not_body k (If c a b) anew)).3 (was_second B E k c s (sym e))) (inr (omega arith))
             (λ j st z. once.3 j z (inr st))
         by false e = unasked_still o ((h.1 (not_body k (If c a b) anew)).4 (λ z. false≢true (e
@@ -230,24 +230,24 @@ module _ (B : ℕ → Option Word) (E : List Word) (A : Asks) (W : List Kept) (p
 
     pub stood_body : (news : Option ℕ) (ts : Terms) (b : Term) (vs : List Word) → IsAnew news (Let ts b) → Once (Let ts b) → Stood B news E A W p (Let ts b)
         → answers B E ts ≡
-        Some vs → Only (p + 1 + nodes b) (p + 1 + nodes b + nodes_in ts) (λ k. StandsIn k ts) A A1 W W1
-        → Stood B (cond (is_open (cell W1 p)) news None) (E ++ vs) A1 W1 (p + 1) b
+        Some vs → Only (p + 1 + nodes b) (p + 1 + nodes b + nodes_in ts) (λ k. StandsIn k ts) A A' W W'
+        → Stood B (cond (is_open (cell W' p)) news None) (E ++ vs) A' W' (p + 1) b
     unfolding Below BelowIn Stands StandsIn Once OnceIn
-    stood_body None ts b vs anew once h s o = by (is_open (cell W1 p))
+    stood_body None ts b vs anew once h s o = by (is_open (cell W' p))
       where
-        fresh : Unasked A1 b
+        fresh : Unasked A' b
         fresh = unasked_still o (record { none = λ k st. h.none k (inr st) }) (λ k st z. once.2 k z st)
 
-        by : (x : Bool) → Stood B (cond x None None) (E ++ vs) A1 W1 (p + 1) b
+        by : (x : Bool) → Stood B (cond x None None) (E ++ vs) A' W' (p + 1) b
         by true = fresh
         by false = fresh
-    stood_body (Some k) ts b vs anew once h s o = by (is_open (cell W1 p)) (ap is_open (o.below p (omega arith)) ∙ h.0.1)
+    stood_body (Some k) ts b vs anew once h s o = by (is_open (cell W' p)) (ap is_open (o.below p (omega arith)) ∙ h.0.1)
       where
         with : (x : Option (List Word)) → answers (without B k) E ts ≡ x → is_some x ≡ true → answers (without B k) E ts ≡ Some vs
         with None q e = absurd (false≢true e)
         with (Some us) q e = q ∙ (sym (grown_all B E k ts us q) ∙ s)
 
-        by : (x : Bool) → x ≡ is_some (answers (without B k) E ts) → Stood B (cond x (Some k) None) (E ++ vs) A1 W1 (p + 1) b
+        by : (x : Bool) → x ≡ is_some (answers (without B k) E ts) → Stood B (cond x (Some k) None) (E ++ vs) A' W' (p + 1) b
         by true e = holds_still o (without B k) (E ++ vs) _ _ ((h.1 (not_body k (Let ts b) anew)).1 vs (with (answers (without B k) E ts) refl (sym e))) (inl
             (omega arith)) (λ j st z. once.2 j z st)
         by false e = unasked_still o ((h.1 (not_body k (Let ts b) anew)).2 (none (answers (without B k) E ts) (sym e))) (λ j st z. once.2 j z st)
@@ -271,6 +271,18 @@ module _ {S : List Stage} {P : List Place} {A : Asks} {F : List Word} {W : List 
 
   pub look_all_is : {n p : ℕ} {news : Option ℕ} {ts us : Terms} → ts ≡ us → MayLookAll S P A F W n p news ts → MayLookAll S P A F W n p news us
   look_all_is {n} {p} {news} e h = subst (λ x. MayLookAll S P A F W n p news x) e h
+
+-- terms that may be looked at may be so with other words behind the slots
+pub may_still : {S : List Stage} {P : List Place} {A : Asks} {F G : List Word} {W : List Kept} {n p : ℕ} {news : Option ℕ} {ts : Terms} →
+    length G ≡ length F → take n G ≡ take n F → MayLookAll S P A F W n p news ts → MayLookAll S P A G W n p news ts
+may_still {S} {P} {A} {F} {G} {W} {n} {p} {news} {ts} long kept h = record {
+  can = can_all_is refl (sym kept) refl h.can;
+  room = omega (arith, h.room, long);
+  laid = h.laid;
+  places = h.places;
+  cells = h.cells;
+  stood = subst (λ (E : List Word). StoodIn (back_at S) news E A W p ts) (sym kept) h.stood;
+}
 
 -- a term that may be looked at, and is plain, may be computed
 pub may_compute : {S : List Stage} {P : List Place} {A : Asks} {F : List Word} {W : List Kept} {n p : ℕ} {news : Option ℕ} {t : Term} →
@@ -392,10 +404,10 @@ module _ {S : List Stage} {P : List Place} {A : Asks} {F : List Word} {W : List 
   unfolding LaidBelow LaidIn
   after_first h = h.laid.0.0.next
 
-  module _ {A1 : Asks} {F1 : List Word} {W1 : List Kept} (la : length A1 ≡ length A) (lf : length F1 ≡ length F) (lw : length W1 ≡ length W) (kept : take n F1 ≡ take n F) where
-    pub may_then : {c a b : Term} (v : Word) → IsAnew news (If c a b) → MayLook S P A F W n p news (If c a b) → Finds S A A1 F W W1 n (p + 1) c (Some v)
+  module _ {A' : Asks} {F' : List Word} {W' : List Kept} (la : length A' ≡ length A) (lf : length F' ≡ length F) (lw : length W' ≡ length W) (kept : take n F' ≡ take n F) where
+    pub may_then : {c a b : Term} (v : Word) → IsAnew news (If c a b) → MayLook S P A F W n p news (If c a b) → Finds S A A' F W W' n (p + 1) c (Some v)
         → v.bits ≡ 1
-        → {m q : ℕ} {x : Option ℕ} → m ≡ n → q ≡ p + 1 + nodes c → x ≡ cond (is_open (cell W1 p)) news None → MayLook S P A1 F1 W1 m q x a
+        → {m q : ℕ} {x : Option ℕ} → m ≡ n → q ≡ p + 1 + nodes c → x ≡ cond (is_open (cell W' p)) news None → MayLook S P A' F' W' m q x a
     unfolding LaidBelow LaidIn Once OnceIn
     may_then {c} {a} {b} v anew h fc one d e f = look_at d e f (record {
       can = can_is (sym la) (sym kept) refl (may.can_then c a b h.can);
@@ -403,13 +415,13 @@ module _ {S : List Stage} {P : List Place} {A : Asks} {F : List Word} {W : List 
       laid = h.laid.1.1;
       places = omega (arith, h.places);
       cells = omega (arith, h.cells, lw);
-      stood = subst (λ l. Stood (back_at S) (cond (is_open (cell W1 p)) news None) l A1 W1 (p + 1 + nodes c) a) (sym kept)
+      stood = subst (λ l. Stood (back_at S) (cond (is_open (cell W' p)) news None) l A' W' (p + 1 + nodes c) a) (sym kept)
           (stood_then (back_at S) (take n F) A W p news c a b anew (once (If c a b) h.can) h.stood (v, found_ready _ v fc.word, one) fc.only);
     })
 
-    pub may_else : {c a b : Term} (v : Word) → IsAnew news (If c a b) → MayLook S P A F W n p news (If c a b) → Finds S A A1 F W W1 n (p + 1) c (Some v)
+    pub may_else : {c a b : Term} (v : Word) → IsAnew news (If c a b) → MayLook S P A F W n p news (If c a b) → Finds S A A' F W W' n (p + 1) c (Some v)
         → (v.bits ≡ 1 → ⊥)
-        → {m q : ℕ} {x : Option ℕ} → m ≡ n → q ≡ p + 1 + nodes c + nodes a → x ≡ cond (is_open (cell W1 p)) news None → MayLook S P A1 F1 W1 m q x b
+        → {m q : ℕ} {x : Option ℕ} → m ≡ n → q ≡ p + 1 + nodes c + nodes a → x ≡ cond (is_open (cell W' p)) news None → MayLook S P A' F' W' m q x b
     unfolding LaidBelow LaidIn Once OnceIn
     may_else {c} {a} {b} v anew h fc other d e f = look_at d e f (record {
       can = can_is (sym la) (sym kept) refl (may.can_else c a b h.can);
@@ -417,13 +429,13 @@ module _ {S : List Stage} {P : List Place} {A : Asks} {F : List Word} {W : List 
       laid = h.laid.1.2;
       places = omega (arith, h.places);
       cells = omega (arith, h.cells, lw);
-      stood = subst (λ l. Stood (back_at S) (cond (is_open (cell W1 p)) news None) l A1 W1 (p + 1 + nodes c + nodes a) b) (sym kept)
+      stood = subst (λ l. Stood (back_at S) (cond (is_open (cell W' p)) news None) l A' W' (p + 1 + nodes c + nodes a) b) (sym kept)
           (stood_else (back_at S) (take n F) A W p news c a b anew (once (If c a b) h.can) h.stood (v, found_ready _ v fc.word, other) fc.only);
     })
 
     pub may_body : {ts : Terms} {b : Term} (vs : List Word) → IsAnew news (Let ts b) → MayLook S P A F W n p news (Let ts b)
-        → FindsAll S A A1 F W W1 n (p + 1 + nodes b) ts (Some vs)
-        → {m q : ℕ} {x : Option ℕ} → take m F1 ≡ take n F ++ vs → m + nodes b ≤ length F → q ≡ p + 1 → x ≡ cond (is_open (cell W1 p)) news None → MayLook S P A1 F1 W1 m q x b
+        → FindsAll S A A' F W W' n (p + 1 + nodes b) ts (Some vs)
+        → {m q : ℕ} {x : Option ℕ} → take m F' ≡ take n F ++ vs → m + nodes b ≤ length F → q ≡ p + 1 → x ≡ cond (is_open (cell W' p)) news None → MayLook S P A' F' W' m q x b
     unfolding LaidBelow LaidIn Once OnceIn
     may_body {ts} {b} vs anew h fs {m} d room e f = look_at refl e f (record {
       can = can_is (sym la) (sym d) refl (may.can_body ts b vs h.can fs.words);
@@ -431,12 +443,12 @@ module _ {S : List Stage} {P : List Place} {A : Asks} {F : List Word} {W : List 
       laid = (h.laid.1.1, h.laid.1.2);
       places = omega (arith, h.places);
       cells = omega (arith, h.cells, lw);
-      stood = subst (λ l. Stood (back_at S) (cond (is_open (cell W1 p)) news None) l A1 W1 (p + 1) b) (sym d)
+      stood = subst (λ l. Stood (back_at S) (cond (is_open (cell W' p)) news None) l A' W' (p + 1) b) (sym d)
           (stood_body (back_at S) (take n F) A W p news ts b vs anew (once (Let ts b) h.can) h.stood fs.words fs.only);
     })
 
-    pub may_rest : {t : Term} {ts : Terms} {o : Option Word} → MayLookAll S P A F W n p news (Cons t ts) → Finds S A A1 F W W1 n p t o
-        → {q : ℕ} → q ≡ p + nodes t → MayLookAll S P A1 F1 W1 n q news ts
+    pub may_rest : {t : Term} {ts : Terms} {o : Option Word} → MayLookAll S P A F W n p news (Cons t ts) → Finds S A A' F W W' n p t o
+        → {q : ℕ} → q ≡ p + nodes t → MayLookAll S P A' F' W' n q news ts
     unfolding LaidBelow LaidIn Once OnceIn
     may_rest {t} {ts} h ft e = look_all_at refl e refl (record {
       can = can_all_is (sym la) (sym kept) refl (may.can_rest t ts h.can);
@@ -444,12 +456,12 @@ module _ {S : List Stage} {P : List Place} {A : Asks} {F : List Word} {W : List 
       laid = h.laid.1;
       places = omega (arith, h.places);
       cells = omega (arith, h.cells, lw);
-      stood = subst (λ l. StoodIn (back_at S) news l A1 W1 (p + nodes t) ts) (sym kept) (by news (stood_rest (back_at S) (take n F) A W p news t ts h.stood));
+      stood = subst (λ l. StoodIn (back_at S) news l A' W' (p + nodes t) ts) (sym kept) (by news (stood_rest (back_at S) (take n F) A W p news t ts h.stood));
     })
       where
         apart : (k : ℕ) → StandsIn k ts → Stands k t → ⊥
         apart k st z = (once_in (Cons t ts) h.can).2 k z st
 
-        by : (x : Option ℕ) → StoodIn (back_at S) x (take n F) A W (p + nodes t) ts → StoodIn (back_at S) x (take n F) A1 W1 (p + nodes t) ts
+        by : (x : Option ℕ) → StoodIn (back_at S) x (take n F) A W (p + nodes t) ts → StoodIn (back_at S) x (take n F) A' W' (p + nodes t) ts
         by None z = unasked_in_still ft.only z apart
         by (Some k) z = below_in_still ft.only (without (back_at S) k) (take n F) _ _ z (inr (omega arith)) apart

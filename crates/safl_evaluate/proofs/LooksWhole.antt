@@ -56,54 +56,54 @@ kept_word v found.TheVariants.Ready r e = ap (λ b. cond b (Some v) None) e
 kept_word v found.TheVariants.Open r e = ap (λ b. cond b (Some v) None) e
 kept_word v found.TheVariants.Shut r e = ap (λ b. cond b (Some v) None) e
 
-pub finds_with : {S : List Stage} {A A1 : Asks} {F : List Word} {W W1 : List Kept} {n p : ℕ} {t : Term} {o r : Option Word} → o ≡ r → Finds S A A1 F W W1 n p t r → Finds S A A1 F W W1 n p t o
-finds_with {S} {A} {A1} {F} {W} {W1} {n} {p} {t} {o} {r} e h = subst (λ z. Finds S A A1 F W W1 n p t z) (sym e) h
+pub finds_with : {S : List Stage} {A A' : Asks} {F : List Word} {W W' : List Kept} {n p : ℕ} {t : Term} {o r : Option Word} → o ≡ r → Finds S A A' F W W' n p t r → Finds S A A' F W W' n p t o
+finds_with {S} {A} {A'} {F} {W} {W'} {n} {p} {t} {o} {r} e h = subst (λ z. Finds S A A' F W W' n p t z) (sym e) h
 
 -- the first word of a table of two
 pub one_word : (ws : List Word) (r : Bool) (v : Word) → length ws ≡ 2 → cond r (Some (take 1 (slice_set ws 0 v))) None ≡ cond r (Some (v ∷ [])) None
 one_word [] r v e = absurd (omega (arith, e))
 one_word (w ∷ ws) r v e = refl
 
-pub looks_is : {S : List Stage} {A A1 : Asks} {F : List Word} {W W1 : List Kept} {n p : ℕ} {t u : Term} {x : Kept} → t ≡ u → Looks S A A1 F W W1 n p u x → Looks S A A1 F W W1 n p t x
-looks_is {S} {A} {A1} {F} {W} {W1} {n} {p} {t} {u} {x} e h = subst (λ z. Looks S A A1 F W W1 n p z x) (sym e) h
+pub looks_is : {S : List Stage} {A A' : Asks} {F : List Word} {W W' : List Kept} {n p : ℕ} {t u : Term} {x : Kept} → t ≡ u → Looks S A A' F W W' n p u x → Looks S A A' F W W' n p t x
+looks_is {S} {A} {A'} {F} {W} {W'} {n} {p} {t} {u} {x} e h = subst (λ z. Looks S A A' F W W' n p z x) (sym e) h
 
-pub looks_with : {S : List Stage} {A A1 : Asks} {F : List Word} {W W1 : List Kept} {n p : ℕ} {t : Term} {x y : Kept} → x ≡ y → Looks S A A1 F W W1 n p t y → Looks S A A1 F W W1 n p t x
-looks_with {S} {A} {A1} {F} {W} {W1} {n} {p} {t} {x} {y} e h = subst (λ z. Looks S A A1 F W W1 n p t z) (sym e) h
+pub looks_with : {S : List Stage} {A A' : Asks} {F : List Word} {W W' : List Kept} {n p : ℕ} {t : Term} {x y : Kept} → x ≡ y → Looks S A A' F W W' n p t y → Looks S A A' F W W' n p t x
+looks_with {S} {A} {A'} {F} {W} {W'} {n} {p} {t} {x} {y} e h = subst (λ z. Looks S A A' F W W' n p t z) (sym e) h
 
-pub looks_slots : {S : List Stage} {A A1 : Asks} {F : List Word} {W W1 : List Kept} {n m p q : ℕ} {t : Term} {x : Kept} → m ≡ n → q ≡ p → Looks
-    S A A1 F W W1 m q t x → Looks S A A1 F W W1 n p t x
-looks_slots {S} {A} {A1} {F} {W} {W1} {n} {m} {p} {q} {t} {x} d e h = subst (λ i. Looks S A A1 F W W1 i p t x) d (subst (λ i. Looks S A A1 F W W1 m i t x) e h)
+pub looks_slots : {S : List Stage} {A A' : Asks} {F : List Word} {W W' : List Kept} {n m p q : ℕ} {t : Term} {x : Kept} → m ≡ n → q ≡ p → Looks
+    S A A' F W W' m q t x → Looks S A A' F W W' n p t x
+looks_slots {S} {A} {A'} {F} {W} {W'} {n} {m} {p} {q} {t} {x} d e h = subst (λ i. Looks S A A' F W W' i p t x) d (subst (λ i. Looks S A A' F W W' m i t x) e h)
 
-pub looks_asks : {S : List Stage} {A A1 A2 : Asks} {F : List Word} {W W1 : List Kept} {n p : ℕ} {t : Term} {x : Kept} → A2 ≡ A1 → Looks S A A1 F W W1 n p t x → Looks S A A2 F W W1 n p t x
-looks_asks {S} {A} {A1} {A2} {F} {W} {W1} {n} {p} {t} {x} e h = subst (λ (l : Asks). Looks S A l F W W1 n p t x) (sym e) h
+pub looks_asks : {S : List Stage} {A A' A'' : Asks} {F : List Word} {W W' : List Kept} {n p : ℕ} {t : Term} {x : Kept} → A'' ≡ A' → Looks S A A' F W W' n p t x → Looks S A A'' F W W' n p t x
+looks_asks {S} {A} {A'} {A''} {F} {W} {W'} {n} {p} {t} {x} e h = subst (λ (l : Asks). Looks S A l F W W' n p t x) (sym e) h
 
-pub finds_is : {S : List Stage} {A A1 : Asks} {F : List Word} {W W1 : List Kept} {n p : ℕ} {t u : Term} {o : Option Word} → t ≡ u → Finds S A A1 F W W1 n p u o → Finds S A A1 F W W1 n p t o
-finds_is {S} {A} {A1} {F} {W} {W1} {n} {p} {t} {u} {o} e h = subst (λ z. Finds S A A1 F W W1 n p z o) (sym e) h
+pub finds_is : {S : List Stage} {A A' : Asks} {F : List Word} {W W' : List Kept} {n p : ℕ} {t u : Term} {o : Option Word} → t ≡ u → Finds S A A' F W W' n p u o → Finds S A A' F W W' n p t o
+finds_is {S} {A} {A'} {F} {W} {W'} {n} {p} {t} {u} {o} e h = subst (λ z. Finds S A A' F W W' n p z o) (sym e) h
 
-pub finds_all_is : {S : List Stage} {A A1 : Asks} {F : List Word} {W W1 : List Kept} {n p : ℕ} {ts us : Terms} {o : Option (List Word)} → ts ≡ us →
-    FindsAll S A A1 F W W1 n p us o → FindsAll S A A1 F W W1 n p ts o
-finds_all_is {S} {A} {A1} {F} {W} {W1} {n} {p} {ts} {us} {o} e h = subst (λ z. FindsAll S A A1 F W W1 n p z o) (sym e) h
+pub finds_all_is : {S : List Stage} {A A' : Asks} {F : List Word} {W W' : List Kept} {n p : ℕ} {ts us : Terms} {o : Option (List Word)} → ts ≡ us →
+    FindsAll S A A' F W W' n p us o → FindsAll S A A' F W W' n p ts o
+finds_all_is {S} {A} {A'} {F} {W} {W'} {n} {p} {ts} {us} {o} e h = subst (λ z. FindsAll S A A' F W W' n p z o) (sym e) h
 
 -- a part that is looked at with other slots, at another place
-pub finds_at : {S : List Stage} {A A1 : Asks} {E G : List Word} {W W1 : List Kept} {m p q : ℕ} {t : Term} {o : Option Word} → take m G ≡ E → q ≡ p →
-    Finds S A A1 G W W1 m q t o → (o ≡ word_of (answer (back_at S) E t)) × Holds (back_at S) E A1 W1 p t × Only p (p + nodes t) (λ k. Stands k t) A A1 W W1
-finds_at {S} {A} {A1} {E} {G} {W} {W1} {m} {p} {q} {t} {o} d e h = (
+pub finds_at : {S : List Stage} {A A' : Asks} {E G : List Word} {W W' : List Kept} {m p q : ℕ} {t : Term} {o : Option Word} → take m G ≡ E → q ≡ p →
+    Finds S A A' G W W' m q t o → (o ≡ word_of (answer (back_at S) E t)) × Holds (back_at S) E A' W' p t × Only p (p + nodes t) (λ k. Stands k t) A A' W W'
+finds_at {S} {A} {A'} {E} {G} {W} {W'} {m} {p} {q} {t} {o} d e h = (
   h.word ∙ ap (λ l. word_of (answer (back_at S) l t)) d,
-  subst (λ l. Holds (back_at S) l A1 W1 p t) d (subst (λ i. Holds (back_at S) (take m G) A1 W1 i t) e h.holds),
-  subst (λ i. Only i (i + nodes t) (λ k. Stands k t) A A1 W W1) e h.only,
+  subst (λ l. Holds (back_at S) l A' W' p t) d (subst (λ i. Holds (back_at S) (take m G) A' W' i t) e h.holds),
+  subst (λ i. Only i (i + nodes t) (λ k. Stands k t) A A' W W') e h.only,
 )
 
-module _ {S : List Stage} {A A1 : Asks} {F : List Word} {W W1 : List Kept} {n p : ℕ} where
+module _ {S : List Stage} {A A' : Asks} {F : List Word} {W W' : List Kept} {n p : ℕ} where
   -- what is found of a term is kept
-  pub finds_kept : {t : Term} {x : Kept} → Looks S A A1 F W W1 n p t x → p < length W1 → {V : List Kept} → V ≡ slice_set W1 p x → Finds S A A1 F W V n p t (word_kept x)
+  pub finds_kept : {t : Term} {x : Kept} → Looks S A A' F W W' n p t x → p < length W' → {V : List Kept} → V ≡ slice_set W' p x → Finds S A A' F W V n p t (word_kept x)
   unfolding Below BelowIn Stands StandsIn Once OnceIn
-  finds_kept {t} {x} h lt {V} e = subst (λ (z : List Kept). Finds S A A1 F W z n p t (word_kept x)) (sym e) (record {
+  finds_kept {t} {x} h lt {V} e = subst (λ (z : List Kept). Finds S A A' F W z n p t (word_kept x)) (sym e) (record {
     word = h.word;
     holds = (
-      subst (λ z. IsCell (back_at S) (take n F) t z) (sym (get_or-set_same W1 p x code.TheVariants.Shut lt)) h.own,
-      below_frame (back_at S) (take n F) A1 A1 W1 (slice_set W1 p x) p t h.below (λ q m o. get_or-set_other W1 p q x code.TheVariants.Shut (omega (arith, m))) (λ k st. refl),
+      subst (λ z. IsCell (back_at S) (take n F) t z) (sym (get_or-set_same W' p x code.TheVariants.Shut lt)) h.own,
+      below_frame (back_at S) (take n F) A' A' W' (slice_set W' p x) p t h.below (λ q m o. get_or-set_other W' p q x code.TheVariants.Shut (omega (arith, m))) (λ k st. refl),
     );
-    only = only_both (only_more h.only (omega arith) (omega arith) (λ k z. z)) (only_more (only_own {p = p} {s = λ k. Stands k t} {A = A1} {W = W1} x) (omega arith) (own p t) (λ k z. z));
+    only = only_both (only_more h.only (omega arith) (omega arith) (λ k z. z)) (only_more (only_own {p = p} {s = λ k. Stands k t} {A = A'} {W = W'} x) (omega arith) (own p t) (λ k z. z));
   })
     where
       own : (p : ℕ) (t : Term) → p + 1 ≤ p + nodes t
@@ -134,17 +134,17 @@ finds_still {S} {A} {F} {W} {n} {p} {t} {news} k is stood apart le {o} e =
     let holds = holds_local (without B k) B (take n F) A W p t (subst (λ x. Stood B x (take n F) A W p t) is stood) same in
     record { word = e ∙ held_word B (take n F) t (cell W p) le holds.0; holds = holds; only = only_none }
 
-pub looks_op : {S : List Stage} {A A1 : Asks} {F : List Word} {W W1 : List Kept} {n p : ℕ} {o : Primitive} {ts : Terms} {x : Kept}
-    {vs : Option (List Word)} → FindsAll S A A1 F W W1 n (p + 1) ts vs → word_kept x ≡ word_of (apply_to o vs) → Looks S A A1 F W W1 n p (Op o ts) x
+pub looks_op : {S : List Stage} {A A' : Asks} {F : List Word} {W W' : List Kept} {n p : ℕ} {o : Primitive} {ts : Terms} {x : Kept}
+    {vs : Option (List Word)} → FindsAll S A A' F W W' n (p + 1) ts vs → word_kept x ≡ word_of (apply_to o vs) → Looks S A A' F W W' n p (Op o ts) x
 unfolding Below BelowIn Stands StandsIn Once OnceIn
-looks_op {S} {A} {A1} {F} {W} {W1} {n} {p} {o} {ts} {x} {vs} fs e =
+looks_op {S} {A} {A'} {F} {W} {W'} {n} {p} {o} {ts} {x} {vs} fs e =
     let word : word_kept x ≡ word_of (answer (back_at S) (take n F) (Op o ts)) = e ∙ (ap (λ z. word_of (apply_to o z)) (sym fs.words) ∙ ap word_of (step.answer_op (back_at S) (take n F) ts o)) in
     record { word = word; own = word; below = λ calls. fs.holds; only = only_more fs.only (omega arith) (omega arith) (λ k z. z) }
 
-pub looks_loop : {S : List Stage} {A A1 : Asks} {F : List Word} {W W1 : List Kept} {n p : ℕ} {l : ℕ} {ts : Terms} {vs : Option (List Word)} → FindsAll
-    S A A1 F W W1 n (p + 1) ts vs → Looks S A A1 F W W1 n p (Loop l ts) code.TheVariants.Shut
+pub looks_loop : {S : List Stage} {A A' : Asks} {F : List Word} {W W' : List Kept} {n p : ℕ} {l : ℕ} {ts : Terms} {vs : Option (List Word)} → FindsAll
+    S A A' F W W' n (p + 1) ts vs → Looks S A A' F W W' n p (Loop l ts) code.TheVariants.Shut
 unfolding Below BelowIn Stands StandsIn Once OnceIn
-looks_loop {S} {A} {A1} {F} {W} {W1} {n} {p} {l} {ts} fs = record {
+looks_loop {S} {A} {A'} {F} {W} {W'} {n} {p} {l} {ts} fs = record {
   word = step.word_loop (back_at S) (take n F) ts l;
   own = refl;
   below = λ calls. fs.holds;
@@ -186,18 +186,27 @@ answers_two B E G a b v w r ws e f g long = answers_first B E a (Cons b Nil) (So
     by true = ap Some (sym (two_words ws v w long))
     by false = refl
 
-pub finds_one : {S : List Stage} {A A1 : Asks} {F : List Word} {W W1 : List Kept} {n p : ℕ} {t : Term} {o : Option Word} → Finds S A A1 F W W1 n p t o
-    → {r : Option (List Word)} → answers (back_at S) (take n F) (Cons t Nil) ≡ r → FindsAll S A A1 F W W1 n p (Cons t Nil) r
+pub finds_one : {S : List Stage} {A A' : Asks} {F : List Word} {W W' : List Kept} {n p : ℕ} {t : Term} {o : Option Word} → Finds S A A' F W W' n p t o
+    → {r : Option (List Word)} → answers (back_at S) (take n F) (Cons t Nil) ≡ r → FindsAll S A A' F W W' n p (Cons t Nil) r
 unfolding Below BelowIn Stands StandsIn
 finds_one f g = record { words = g; holds = (f.holds, tt); only = only_more f.only (omega arith) (omega arith) (λ k z. inl z) }
 
-pub finds_slots : {S : List Stage} {A A1 : Asks} {F : List Word} {W W1 : List Kept} {n m p q : ℕ} {t : Term} {o : Option Word} → m ≡ n → q ≡ p → Finds
-    S A A1 F W W1 m q t o → Finds S A A1 F W W1 n p t o
-finds_slots {S} {A} {A1} {F} {W} {W1} {n} {m} {p} {q} {t} {o} d e h = subst (λ i. Finds S A A1 F W W1 i p t o) d (subst (λ i. Finds S A A1 F W W1 m i t o) e h)
+pub finds_slots : {S : List Stage} {A A' : Asks} {F : List Word} {W W' : List Kept} {n m p q : ℕ} {t : Term} {o : Option Word} → m ≡ n → q ≡ p → Finds
+    S A A' F W W' m q t o → Finds S A A' F W W' n p t o
+finds_slots {S} {A} {A'} {F} {W} {W'} {n} {m} {p} {q} {t} {o} d e h = subst (λ i. Finds S A A' F W W' i p t o) d (subst (λ i. Finds S A A' F W W' m i t o) e h)
 
-pub finds_all_slots : {S : List Stage} {A A1 : Asks} {F : List Word} {W W1 : List Kept} {n m p q : ℕ} {ts : Terms} {o : Option (List Word)} → m ≡ n →
-    q ≡ p → FindsAll S A A1 F W W1 m q ts o → FindsAll S A A1 F W W1 n p ts o
-finds_all_slots {S} {A} {A1} {F} {W} {W1} {n} {m} {p} {q} {ts} {o} d e h = subst (λ i. FindsAll S A A1 F W W1 i p ts o) d (subst (λ i. FindsAll S A A1 F W W1 m i ts o) e h)
+pub finds_all_slots : {S : List Stage} {A A' : Asks} {F : List Word} {W W' : List Kept} {n m p q : ℕ} {ts : Terms} {o : Option (List Word)} → m ≡ n →
+    q ≡ p → FindsAll S A A' F W W' m q ts o → FindsAll S A A' F W W' n p ts o
+finds_all_slots {S} {A} {A'} {F} {W} {W'} {n} {m} {p} {q} {ts} {o} d e h = subst (λ i. FindsAll S A A' F W W' i p ts o) d (subst (λ i. FindsAll S A A' F W W' m i ts o) e h)
+
+-- what was found of terms is found of them too with other words behind the slots
+pub finds_all_still : {S : List Stage} {A A' : Asks} {F G : List Word} {W W' : List Kept} {n p : ℕ} {ts : Terms} {o : Option (List Word)} → take n G ≡
+    take n F → FindsAll S A A' G W W' n p ts o → FindsAll S A A' F W W' n p ts o
+finds_all_still {S} {A} {A'} {F} {G} {W} {W'} {n} {p} {ts} {o} kept h = record {
+  words = ap (λ (E : List Word). answers (back_at S) E ts) (sym kept) ∙ h.words;
+  holds = subst (λ (E : List Word). BelowIn (back_at S) E A' W' p ts) kept h.holds;
+  only = h.only;
+}
 
 -- ---- a plain body
 
@@ -255,9 +264,9 @@ module _ {S : List Stage} {A : Asks} {F : List Word} {W : List Kept} {n p : ℕ}
 
 -- ---- results
 
-module _ {S : List Stage} {P : List Place} {A A1 A2 : Asks} {F G : List Word} {W W1 W2 : List Kept} {n m p q : ℕ} {news : Option ℕ} where
-  pub looks_then : {c a b : Term} {o : Option Word} (v : Word) → MayLook S P A F W n p news (If c a b) → Finds S A A1 F W W1 n (p + 1) c (Some v) → v.bits ≡ 1
-      → take m G ≡ take n F → q ≡ p + 1 + nodes c → Finds S A1 A2 G W1 W2 m q a o → Looks S A A2 F W W2 n p (If c a b) (opened_with o)
+module _ {S : List Stage} {P : List Place} {A A' A'' : Asks} {F G : List Word} {W W' W'' : List Kept} {n m p q : ℕ} {news : Option ℕ} where
+  pub looks_then : {c a b : Term} {o : Option Word} (v : Word) → MayLook S P A F W n p news (If c a b) → Finds S A A' F W W' n (p + 1) c (Some v) → v.bits ≡ 1
+      → take m G ≡ take n F → q ≡ p + 1 + nodes c → Finds S A' A'' G W' W'' m q a o → Looks S A A'' F W W'' n p (If c a b) (opened_with o)
   unfolding Below BelowIn Stands StandsIn Once OnceIn
   looks_then {c} {a} {b} {o} v h fc one d e f =
       let B = back_at S in
@@ -280,8 +289,8 @@ module _ {S : List Stage} {P : List Place} {A A1 A2 : Asks} {F G : List Word} {W
         only = only_both (only_more fc.only (omega arith) (omega arith) (λ k z. inl z)) (only_more fa.2 (omega arith) (omega arith) (λ k z. inr (inl z)));
       }
 
-  pub looks_else : {c a b : Term} {o : Option Word} (v : Word) → MayLook S P A F W n p news (If c a b) → Finds S A A1 F W W1 n (p + 1) c (Some v) → (v.bits ≡ 1 → ⊥)
-      → take m G ≡ take n F → q ≡ p + 1 + nodes c + nodes a → Finds S A1 A2 G W1 W2 m q b o → Looks S A A2 F W W2 n p (If c a b) (opened_with o)
+  pub looks_else : {c a b : Term} {o : Option Word} (v : Word) → MayLook S P A F W n p news (If c a b) → Finds S A A' F W W' n (p + 1) c (Some v) → (v.bits ≡ 1 → ⊥)
+      → take m G ≡ take n F → q ≡ p + 1 + nodes c + nodes a → Finds S A' A'' G W' W'' m q b o → Looks S A A'' F W W'' n p (If c a b) (opened_with o)
   unfolding Below BelowIn Stands StandsIn Once OnceIn
   looks_else {c} {a} {b} {o} v h fc other d e f =
       let B = back_at S in
@@ -304,22 +313,22 @@ module _ {S : List Stage} {P : List Place} {A A1 A2 : Asks} {F G : List Word} {W
         only = only_both (only_more fc.only (omega arith) (omega arith) (λ k z. inl z)) (only_more fb.2 (omega arith) (omega arith) (λ k z. inr (inr z)));
       }
 
-  pub looks_let : {ts : Terms} {b : Term} {o : Option Word} (vs : List Word) → MayLook S P A F W n p news (Let ts b) → FindsAll S A A1 F W W1 n (p + 1 + nodes b) ts (Some vs)
-      → take m G ≡ take n F ++ vs → q ≡ p + 1 → Finds S A1 A2 G W1 W2 m q b o → Looks S A A2 F W W2 n p (Let ts b) (opened_with o)
+  pub looks_let : {ts : Terms} {b : Term} {o : Option Word} (vs : List Word) → MayLook S P A F W n p news (Let ts b) → FindsAll S A A' F W W' n (p + 1 + nodes b) ts (Some vs)
+      → take m G ≡ take n F ++ vs → q ≡ p + 1 → Finds S A' A'' G W' W'' m q b o → Looks S A A'' F W W'' n p (Let ts b) (opened_with o)
   unfolding Below BelowIn Stands StandsIn Once OnceIn
   looks_let {ts} {b} {o} vs h fs d e f =
       let B = back_at S in
       let E = take n F in
       let apart = once (Let ts b) h.can in
-      let holds = subst (λ l. Holds B l A2 W2 (p + 1) b) d (subst (λ i. Holds B (take m G) A2 W2 i b) e f.holds) in
-      let only = subst (λ i. Only i (i + nodes b) (λ k. Stands k b) A1 A2 W1 W2) e f.only in
+      let holds = subst (λ l. Holds B l A'' W'' (p + 1) b) d (subst (λ i. Holds B (take m G) A'' W'' i b) e f.holds) in
+      let only = subst (λ i. Only i (i + nodes b) (λ k. Stands k b) A' A'' W' W'') e f.only in
       let word : word_kept (opened_with o) ≡ word_of (answer B E (Let ts b)) = opened_word o ∙ (f.word ∙ (ap (λ l. word_of (answer B l b)) d ∙ ap word_of (step.answer_let B E ts b vs fs.words))) in
       record {
         word = word;
         own = (word, opened_open o ∙ sym (ap is_some fs.words));
         below = λ calls. (
           below_in_still only B E _ _ fs.holds (inr (omega arith)) (λ k x y. apart.2 k x y),
-          λ us g. subst (λ l. Holds B (E ++ l) A2 W2 (p + 1) b) (same_Some vs us (sym fs.words ∙ g)) holds,
+          λ us g. subst (λ l. Holds B (E ++ l) A'' W'' (p + 1) b) (same_Some vs us (sym fs.words ∙ g)) holds,
           λ g. absurd (some_none vs (sym fs.words ∙ g)),
         );
         only = only_both (only_more fs.only (omega arith) (omega arith) (λ k z. inl z)) (only_more only (omega arith) (omega arith) (λ k z. inr z));
@@ -343,8 +352,8 @@ looks_returned {S} {P} {A} {F} {W} {n} {p} {news} {f} {j} {ts} {x} h is back =
       only = only_none;
     }
 
-module _ {S : List Stage} {P : List Place} {A A1 : Asks} {F : List Word} {W W1 : List Kept} {n p : ℕ} {news : Option ℕ} where
-  pub looks_shut : {c a b : Term} → MayLook S P A F W n p news (If c a b) → Finds S A A1 F W W1 n (p + 1) c None → Looks S A A1 F W W1 n p (If c a b) code.TheVariants.Shut
+module _ {S : List Stage} {P : List Place} {A A' : Asks} {F : List Word} {W W' : List Kept} {n p : ℕ} {news : Option ℕ} where
+  pub looks_shut : {c a b : Term} → MayLook S P A F W n p news (If c a b) → Finds S A A' F W W' n (p + 1) c None → Looks S A A' F W W' n p (If c a b) code.TheVariants.Shut
   unfolding Below BelowIn Stands StandsIn Once OnceIn
   looks_shut {c} {a} {b} h fc =
       let B = back_at S in
@@ -364,7 +373,7 @@ module _ {S : List Stage} {P : List Place} {A A1 : Asks} {F : List Word} {W W1 :
         only = only_more fc.only (omega arith) (omega arith) (λ k z. inl z);
       }
 
-  pub looks_let_shut : {ts : Terms} {b : Term} → MayLook S P A F W n p news (Let ts b) → FindsAll S A A1 F W W1 n (p + 1 + nodes b) ts None → Looks S A A1 F W W1 n p (Let ts b) code.TheVariants.Shut
+  pub looks_let_shut : {ts : Terms} {b : Term} → MayLook S P A F W n p news (Let ts b) → FindsAll S A A' F W W' n (p + 1 + nodes b) ts None → Looks S A A' F W W' n p (Let ts b) code.TheVariants.Shut
   unfolding Below BelowIn Stands StandsIn Once OnceIn
   looks_let_shut {ts} {b} h fs =
       let B = back_at S in
@@ -383,20 +392,20 @@ module _ {S : List Stage} {P : List Place} {A A1 : Asks} {F : List Word} {W W1 :
       }
 
   -- the call is asked for with its arguments
-  pub looks_asked : {f j : ℕ} {ts : Terms} {x : Kept} (vs : List Word) → MayLook S P A F W n p news (Call f j ts) → FindsAll S A A1 F W W1 n (p + 1) ts (Some vs) → j < length A1
-      → {A2 : Asks} {o : Option (List Word)} → o ≡ Some vs → A2 ≡ slice_set A1 j o → word_kept x ≡ back_at S j → Looks S A A2 F W W1 n p (Call f j ts) x
+  pub looks_asked : {f j : ℕ} {ts : Terms} {x : Kept} (vs : List Word) → MayLook S P A F W n p news (Call f j ts) → FindsAll S A A' F W W' n (p + 1) ts (Some vs) → j < length A'
+      → {A'' : Asks} {o : Option (List Word)} → o ≡ Some vs → A'' ≡ slice_set A' j o → word_kept x ≡ back_at S j → Looks S A A'' F W W' n p (Call f j ts) x
   unfolding Below BelowIn Stands StandsIn Once OnceIn
-  looks_asked {f} {j} {ts} {x} vs h fs lt {A2} {o} q e back =
+  looks_asked {f} {j} {ts} {x} vs h fs lt {A''} {o} q e back =
       let B = back_at S in
       let E = take n F in
       let apart = once (Call f j ts) h.can in
-      let off : (k : ℕ) → (k ≡ j → ⊥) → get_or A2 k None ≡ get_or A1 k None = λ k ne. ap (λ (l : Asks). get_or l k None) e ∙ get_or-set_other A1 j k o None ne in
+      let off : (k : ℕ) → (k ≡ j → ⊥) → get_or A'' k None ≡ get_or A' k None = λ k ne. ap (λ (l : Asks). get_or l k None) e ∙ get_or-set_other A' j k o None ne in
       record {
         word = back ∙ (shown_call (B j) ∙ ap word_of (step.answer_call B E ts f j));
         own = back;
         below = (
-          ap (λ (l : Asks). get_or l j None) e ∙ (get_or-set_same A1 j o None lt ∙ (q ∙ sym fs.words)),
-          part.below_in_same B E A1 A2 W1 (p + 1) ts fs.holds (λ k st. off k (λ z. apart.1 (subst (λ i. StandsIn i ts) z st))),
+          ap (λ (l : Asks). get_or l j None) e ∙ (get_or-set_same A' j o None lt ∙ (q ∙ sym fs.words)),
+          part.below_in_same B E A' A'' W' (p + 1) ts fs.holds (λ k st. off k (λ z. apart.1 (subst (λ i. StandsIn i ts) z st))),
         );
         only = record {
           below = λ r m. fs.only.below r (omega (arith, m));
@@ -405,8 +414,8 @@ module _ {S : List Stage} {P : List Place} {A A1 : Asks} {F : List Word} {W W1 :
         };
       }
 
-  pub looks_unasked : {f j : ℕ} {ts : Terms} {x : Kept} → MayLook S P A F W n p news (Call f j ts) → FindsAll S A A1 F W W1 n (p + 1) ts None →
-      word_kept x ≡ back_at S j → Looks S A A1 F W W1 n p (Call f j ts) x
+  pub looks_unasked : {f j : ℕ} {ts : Terms} {x : Kept} → MayLook S P A F W n p news (Call f j ts) → FindsAll S A A' F W W' n (p + 1) ts None →
+      word_kept x ≡ back_at S j → Looks S A A' F W W' n p (Call f j ts) x
   unfolding Below BelowIn Stands StandsIn Once OnceIn
   looks_unasked {f} {j} {ts} {x} h fs back =
       let B = back_at S in
@@ -419,17 +428,17 @@ module _ {S : List Stage} {P : List Place} {A A1 : Asks} {F : List Word} {W W1 :
         only = only_more fs.only (omega arith) (omega arith) (λ k z. inr z);
       }
 
-  pub finds_more : {A2 : Asks} {G : List Word} {W2 : List Kept} {t : Term} {ts : Terms} {o : Option Word} {os : Option (List Word)} {q : ℕ} →
-      MayLookAll S P A F W n p news (Cons t ts) → Finds S A A1 F W W1 n p t o
-      → take n G ≡ take n F → q ≡ p + nodes t → FindsAll S A1 A2 G W1 W2 n q ts os → {r : Option (List Word)} → answers (back_at S) (take n F)
-      (Cons t ts) ≡ r → FindsAll S A A2 F W W2 n p (Cons t ts) r
+  pub finds_more : {A'' : Asks} {G : List Word} {W'' : List Kept} {t : Term} {ts : Terms} {o : Option Word} {os : Option (List Word)} {q : ℕ} →
+      MayLookAll S P A F W n p news (Cons t ts) → Finds S A A' F W W' n p t o
+      → take n G ≡ take n F → q ≡ p + nodes t → FindsAll S A' A'' G W' W'' n q ts os → {r : Option (List Word)} → answers (back_at S) (take n F)
+      (Cons t ts) ≡ r → FindsAll S A A'' F W W'' n p (Cons t ts) r
   unfolding Below BelowIn Stands StandsIn Once OnceIn
-  finds_more {A2} {G} {W2} {t} {ts} {o} {os} {q} h ft d e fs g =
+  finds_more {A''} {G} {W''} {t} {ts} {o} {os} {q} h ft d e fs g =
       let B = back_at S in
       let E = take n F in
       let apart = once_in (Cons t ts) h.can in
-      let rest = subst (λ l. BelowIn B l A2 W2 (p + nodes t) ts) d (subst (λ i. BelowIn B (take n G) A2 W2 i ts) e fs.holds) in
-      let only = subst (λ i. Only i (i + nodes_in ts) (λ k. StandsIn k ts) A1 A2 W1 W2) e fs.only in
+      let rest = subst (λ l. BelowIn B l A'' W'' (p + nodes t) ts) d (subst (λ i. BelowIn B (take n G) A'' W'' i ts) e fs.holds) in
+      let only = subst (λ i. Only i (i + nodes_in ts) (λ k. StandsIn k ts) A' A'' W' W'') e fs.only in
       record {
         words = g;
         holds = (holds_still only B E _ _ ft.holds (inl (omega arith)) (λ k x y. apart.2 k x y), rest);

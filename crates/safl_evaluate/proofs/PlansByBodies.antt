@@ -35,17 +35,17 @@ planned_none c P bodies = record {
   apart = λ g h lt l. absurd (omega (arith, l));
 }
 
-pub planned_next : (c : CheckedProgram) (P P1 : List Place) (bodies : List ℕ) (f at next : ℕ) → ArePlanned c P bodies f at → f < c.program.functions → f < length bodies
-    → Laid P1 at (c.program.body f) → SameOutside at (at + nodes (c.program.body f)) P P1 → next ≡ at + nodes (c.program.body f) → ArePlanned c P1 (slice_set bodies f at) (suc f) next
-planned_next c P P1 bodies f at next h lt within laid outside is =
+pub planned_next : (c : CheckedProgram) (P P' : List Place) (bodies : List ℕ) (f at next : ℕ) → ArePlanned c P bodies f at → f < c.program.functions → f < length bodies
+    → Laid P' at (c.program.body f) → SameOutside at (at + nodes (c.program.body f)) P P' → next ≡ at + nodes (c.program.body f) → ArePlanned c P' (slice_set bodies f at) (suc f) next
+planned_next c P P' bodies f at next h lt within laid outside is =
     let new : get_or (slice_set bodies f at) f 0 ≡ at = get_or-set_same bodies f at 0 within in
     let old : (g : ℕ) → g < f → get_or (slice_set bodies f at) g 0 ≡ get_or bodies g 0 = λ g l. get_or-set_other bodies f g at 0 (λ q. absurd (omega (arith, l, q))) in
     let split : (g : ℕ) → g < suc f → (g < f) ⊎ (g ≡ f) = λ g l. ⊎_elim (λ x. inl x) (λ x. inr (omega (arith, x, l))) (cases_lt g f) in
     record {
       count = omega (arith, is, h.count, before_next c f);
       laid = λ g l. ⊎_elim
-          (λ x. subst (λ (i : ℕ). Laid P1 i (c.program.body g)) (sym (old g x)) (laid_still (get_or bodies g 0) (c.program.body g) outside (inl (h.within g x)) (h.laid g x)))
-          (λ e. subst (λ (j : ℕ). Laid P1 (get_or (slice_set bodies f at) j 0) (c.program.body j)) (sym e) (subst (λ (i : ℕ). Laid P1 i (c.program.body f)) (sym new) laid))
+          (λ x. subst (λ (i : ℕ). Laid P' i (c.program.body g)) (sym (old g x)) (laid_still (get_or bodies g 0) (c.program.body g) outside (inl (h.within g x)) (h.laid g x)))
+          (λ e. subst (λ (j : ℕ). Laid P' (get_or (slice_set bodies f at) j 0) (c.program.body j)) (sym e) (subst (λ (i : ℕ). Laid P' i (c.program.body f)) (sym new) laid))
           (split g l);
       within = λ g l. ⊎_elim
           (λ x. omega (arith, old g x, h.within g x, is))

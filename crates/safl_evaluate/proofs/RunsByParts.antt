@@ -305,7 +305,7 @@ not_wanted_in B E ts k apart = by (wanted_in B E ts k) refl
     by (Some ws) e = absurd (apart (wanted_stands_in B E ts k (ap is_some e)))
 
 -- after one part was looked at, another one is still not asked for
-still : {A A1 : List (Option (List Word))} {w : ℕ → Option (List Word)} (k : ℕ) → get_or A k None ≡ None → Notes A A1 w → w k ≡ None → get_or A1 k None ≡ None
+still : {A A' : List (Option (List Word))} {w : ℕ → Option (List Word)} (k : ℕ) → get_or A k None ≡ None → Notes A A' w → w k ≡ None → get_or A' k None ≡ None
 still k none notes off = notes.each k ∙ neither _ _ none off
 
 module _ {A : List (Option (List Word))} where

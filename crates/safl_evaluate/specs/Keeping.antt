@@ -99,10 +99,10 @@ pub record IsAnew (news : Option ℕ) (t : Term) : Type 0 where
   pub none : plain_body t ≡ true → news ≡ None
 
 -- nothing differs outside the places from one number to another, and these sites
-pub record Only (from upto : ℕ) (site : ℕ → Type 0) (A A1 : List (Option (List Word))) (W W1 : List Kept) : Type 0 where
-  pub below : (q : ℕ) → q < from → cell W1 q ≡ cell W q
-  pub above : (q : ℕ) → upto ≤ q → cell W1 q ≡ cell W q
-  pub asks : (k : ℕ) → (site k → ⊥) → get_or A1 k None ≡ get_or A k None
+pub record Only (from upto : ℕ) (site : ℕ → Type 0) (A A' : List (Option (List Word))) (W W' : List Kept) : Type 0 where
+  pub below : (q : ℕ) → q < from → cell W' q ≡ cell W q
+  pub above : (q : ℕ) → upto ≤ q → cell W' q ≡ cell W q
+  pub asks : (k : ℕ) → (site k → ⊥) → get_or A' k None ≡ get_or A k None
 
 -- the slots of a term are filled, its nodes have places, and what was kept of it stood right
 pub record MayLook (S : List Stage) (P : List Place) (A : List (Option (List Word))) (F : List Word) (W : List Kept) (n p : ℕ) (news : Option ℕ) (t : Term) : Type 0 where
@@ -128,23 +128,23 @@ opened_with (Some v) = code.TheVariants.Ready v
 
 -- before and after the parts of a term are looked at: this is found of the term, what is kept of its parts is right, and nothing
 -- else differs
-pub record Looks (S : List Stage) (A A1 : List (Option (List Word))) (F : List Word) (W W1 : List Kept) (n p : ℕ) (t : Term) (x : Kept) : Type 0 where
+pub record Looks (S : List Stage) (A A' : List (Option (List Word))) (F : List Word) (W W' : List Kept) (n p : ℕ) (t : Term) (x : Kept) : Type 0 where
   pub word : word_kept x ≡ word_of (answer (back_at S) (take n F) t)
   pub own : IsCell (back_at S) (take n F) t x
-  pub below : Below (back_at S) (take n F) A1 W1 p t
-  pub only : Only (p + 1) (p + nodes t) (λ k. Stands k t) A A1 W W1
+  pub below : Below (back_at S) (take n F) A' W' p t
+  pub only : Only (p + 1) (p + nodes t) (λ k. Stands k t) A A' W W'
 
 -- before and after a term is evaluated: this is found of the term, what is kept of it and of its parts is right, and nothing else
 -- differs
-pub record Finds (S : List Stage) (A A1 : List (Option (List Word))) (F : List Word) (W W1 : List Kept) (n p : ℕ) (t : Term) (o : Option Word) : Type 0 where
+pub record Finds (S : List Stage) (A A' : List (Option (List Word))) (F : List Word) (W W' : List Kept) (n p : ℕ) (t : Term) (o : Option Word) : Type 0 where
   pub word : o ≡ word_of (answer (back_at S) (take n F) t)
-  pub holds : Holds (back_at S) (take n F) A1 W1 p t
-  pub only : Only p (p + nodes t) (λ k. Stands k t) A A1 W W1
+  pub holds : Holds (back_at S) (take n F) A' W' p t
+  pub only : Only p (p + nodes t) (λ k. Stands k t) A A' W W'
 
-pub record FindsAll (S : List Stage) (A A1 : List (Option (List Word))) (F : List Word) (W W1 : List Kept) (n p : ℕ) (ts : Terms) (o : Option (List Word)) : Type 0 where
+pub record FindsAll (S : List Stage) (A A' : List (Option (List Word))) (F : List Word) (W W' : List Kept) (n p : ℕ) (ts : Terms) (o : Option (List Word)) : Type 0 where
   pub words : answers (back_at S) (take n F) ts ≡ o
-  pub holds : BelowIn (back_at S) (take n F) A1 W1 p ts
-  pub only : Only p (p + nodes_in ts) (λ k. StandsIn k ts) A A1 W W1
+  pub holds : BelowIn (back_at S) (take n F) A' W' p ts
+  pub only : Only p (p + nodes_in ts) (λ k. StandsIn k ts) A A' W W'
 
 -- the term at this place has parts, and the site that has returned since it was last looked at is none of its own
 pub record IsSkipped (P : List Place) (p : ℕ) (news : Option ℕ) : Type 0 where

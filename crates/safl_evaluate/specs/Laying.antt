@@ -53,9 +53,9 @@ abbrev pub Laid : List Place → ℕ → Term → Type 0
 Laid P p t = IsPlace (place P p) p t × LaidBelow P p t
 
 -- the places outside these two numbers are the same
-pub record SameOutside (from upto : ℕ) (P P1 : List Place) : Type 0 where
-  pub below : (q : ℕ) → q < from → place P1 q ≡ place P q
-  pub above : (q : ℕ) → upto ≤ q → place P1 q ≡ place P q
+pub record SameOutside (from upto : ℕ) (P P' : List Place) : Type 0 where
+  pub below : (q : ℕ) → q < from → place P' q ≡ place P q
+  pub above : (q : ℕ) → upto ≤ q → place P' q ≡ place P q
 
 -- the two numbers of one place are between those of the other
 pub record Covers (x y : Place) : Type 0 where

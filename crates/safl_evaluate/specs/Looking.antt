@@ -17,14 +17,21 @@ CanLookAll f A F W at ts = MayLookAll f.stages.now f.places.now A.each.items F W
 
 -- the term has been looked at
 abbrev pub HasLooked : Facts → Wants → Wants → List Word → List Kept → List Kept → Spot → Term → Kept → Type 0
-HasLooked f A A1 F W W1 at t x = Looks f.stages.now A.each.items A1.each.items F W W1 at.slots at.at t x
+HasLooked f A A' F W W' at t x = Looks f.stages.now A.each.items A'.each.items F W W' at.slots at.at t x
 
 -- this was found of the term
 abbrev pub HasFound : Facts → Wants → Wants → List Word → List Kept → List Kept → Spot → Term → Option Word → Type 0
-HasFound f A A1 F W W1 at t o = Finds f.stages.now A.each.items A1.each.items F W W1 at.slots at.at t o
+HasFound f A A' F W W' at t o = Finds f.stages.now A.each.items A'.each.items F W W' at.slots at.at t o
 
 abbrev pub HasFoundAll : Facts → Wants → Wants → List Word → List Kept → List Kept → Spot → Terms → Option (List Word) → Type 0
-HasFoundAll f A A1 F W W1 at ts o = FindsAll f.stages.now A.each.items A1.each.items F W W1 at.slots at.at ts o
+HasFoundAll f A A' F W W' at ts o = FindsAll f.stages.now A.each.items A'.each.items F W W' at.slots at.at ts o
+
+-- this is found of terms without a look at their parts: nothing that is kept changes
+abbrev pub IsFound : Facts → Wants → List Word → List Kept → Spot → Term → Option Word → Type 0
+IsFound f A F W at t o = HasFound f A A F W W at t o
+
+abbrev pub AreFound : Facts → Wants → List Word → List Kept → Spot → Terms → Option (List Word) → Type 0
+AreFound f A F W at ts o = HasFoundAll f A A F W W at ts o
 
 -- the word, if the test holds
 abbrev pub word_if : Bool → Word → Option Word

@@ -1,12 +1,12 @@
 //! Partial evaluation: what a running body comes to so far, and which calls it wants.
 
-ghost use Rattle.std.specs.Prelude.{◌≡◌, ◌+◌, ◌<◌, ◌≤◌, ◌^◌, length, take, cond, slice_set, Some, None, IsTrue};
+ghost use Rattle.std.specs.Prelude.{◌≡◌, ◌+◌, ◌<◌, ◌≤◌, ◌^◌, length, take, cond, slice_get, slice_set, Some, None, IsTrue};
 ghost use Rattle.safl_term.specs.Readiness.{answer, word_of};
 ghost use Rattle.safl_term.specs.Tree.{shown_term, shown_terms};
 ghost use Rattle.safl_evaluate.specs.Asking.{Asks};
 ghost use Rattle.safl_evaluate.specs.Finding.{cell_of};
 ghost use Rattle.safl_evaluate.specs.Keeping.{cell, is_open, IsAnew, IsSkipped};
-ghost use Rattle.safl_evaluate.specs.Looking.{CanLook, CanLookAll, HasLooked, HasFound, HasFoundAll, word_if, words_if, words_if_at};
+ghost use Rattle.safl_evaluate.specs.Looking.{CanLook, CanLookAll, HasLooked, HasFound, HasFoundAll, IsFound, AreFound, word_if, words_if, words_at, words_if_at};
 ghost use Rattle.safl_evaluate.specs.Laying.{place};
 ghost use Rattle.safl_evaluate.specs.Plain.{CanCompute, ComesTo};
 ghost use Rattle.safl_evaluate.specs.Stages.{back_at};
@@ -409,10 +409,87 @@ fn pair(
     }
 }
 
+// Writes the words of terms to `env` from `to` on, and says whether all are ready. Mostly they are known already: a
+// site that returns has a path above it, and what stands beside the path is as it was.
+#[cycle(find)]
+fn values(
+    facts: &Facts,
+    asks: &mut Wants,
+    env: &mut [Word],
+    kept: &mut [Kept],
+    spot: Spot,
+    to: usize,
+    ts: &[Term],
+) -> bool
+    requires may { CanLookAll facts.now asks.old env.old kept.old spot (shown_terms ts.now) }
+    requires places { to + length ts.now ≤ length env.old }
+    requires after { spot.slots ≤ to }
+    ensures finds { HasFoundAll facts.now asks.old asks.new env.old kept.old kept.new spot (shown_terms ts.now)
+        (words_if_at result env.new to (length ts.now)) }
+    ensures asks { Asks asks.old asks.new }
+    ensures kept { take spot.slots env.new ≡ take spot.slots env.old }
+{
+    if are_known(facts, asks, env, kept, spot, to, ts) {
+        return true;
+    }
+    look_at_all(facts, asks, env, kept, spot, to, ts)
+}
+
+// Whether the words of terms are known without a look at their parts: of constants, of slots, and of terms that are
+// skipped and have one. They are written to `env` from `to` on, up to the first that is not known.
+fn are_known(
+    facts: &Facts,
+    asks: &Wants,
+    env: &mut [Word],
+    kept: &[Kept],
+    spot: Spot,
+    to: usize,
+    ts: &[Term],
+) -> bool
+    requires may { CanLookAll facts.now asks.now env.old kept.now spot (shown_terms ts.now) }
+    requires places { to + length ts.now ≤ length env.old }
+    requires after { spot.slots ≤ to }
+    ensures finds { IsTrue result → AreFound facts.now asks.now env.old kept.now spot (shown_terms ts.now)
+        (Some (words_at env.new to (length ts.now))) }
+    ensures kept { take to env.new ≡ take to env.old }
+{
+    let Some((first, rest)) = ts.split_first() else {
+        return true;
+    };
+    is_known(facts, asks, env, kept, spot, to, first)
+        && are_known(facts, asks, env, kept, after(facts, spot), to + 1, rest)
+}
+
+// Whether the word of a term is known without a look at its parts. It is written to the slot `to`.
+fn is_known(
+    facts: &Facts,
+    asks: &Wants,
+    env: &mut [Word],
+    kept: &[Kept],
+    spot: Spot,
+    to: usize,
+    t: &Term,
+) -> bool
+    requires may { CanLook facts.now asks.now env.old kept.now spot (shown_term t.now) }
+    requires place { to < length env.old }
+    requires after { spot.slots ≤ to }
+    ensures finds { IsTrue result → IsFound facts.now asks.now env.old kept.now spot (shown_term t.now) (slice_get env.new to) }
+    ensures kept { take to env.new ≡ take to env.old }
+{
+    match top(t) {
+        Node::Const(number) => put(&mut env[to], &number),
+        Node::Var(slot) => {
+            let word = env[slot as usize];
+            put(&mut env[to], &word)
+        }
+        _ => is_skipped(facts, spot) && recall(kept, spot.at, &mut env[to]),
+    }
+}
+
 // Writes the words of terms to `env` from `to` on, and says whether all are ready. Evaluating a term may overwrite
 // `env` from `slots` on, so the word of each term is written after those of the terms that follow it.
 #[cycle(find)]
-fn values(
+fn look_at_all(
     facts: &Facts,
     asks: &mut Wants,
     env: &mut [Word],
@@ -434,7 +511,7 @@ fn values(
     };
     let mut word = blank();
     let found = operand(facts, asks, env, kept, spot, first, &mut word);
-    let ready = values(facts, asks, env, kept, after(facts, spot), to + 1, rest);
+    let ready = look_at_all(facts, asks, env, kept, after(facts, spot), to + 1, rest);
     if found {
         env[to] = word;
         ready

@@ -408,19 +408,39 @@ pair-returns-else-first-clause-finds t c =
 
 -- ---- lists
 
-pub values-returns-in_default-clause-finds : goal.values-returns-in_default-clause-finds
-values-returns-in_default-clause-finds t c =
+pub values-returns-then-are_known-clause-kept : goal.values-returns-then-are_known-clause-kept
+values-returns-then-are_known-clause-kept t c =
+    step.take_fewer c.are_known.new.env c.args.env.now c.args.spot.slots c.args.to c.requires.after c.are_known.ensures.kept
+
+pub values-look_at_all-requires : goal.values-look_at_all-requires
+values-look_at_all-requires t c =
+    let kept = step.take_fewer c.are_known.new.env c.args.env.now c.args.spot.slots c.args.to c.requires.after c.are_known.ensures.kept in
+    (search rules, (part.may_still (omega (arith, c.are_known.auto.env)) kept c.requires.may, (omega (arith, c.requires.places, c.are_known.auto.env), c.requires.after)))
+
+pub values-returns-clause-finds : goal.values-returns-clause-finds
+values-returns-clause-finds t c =
+    whole.finds_all_still (step.take_fewer c.are_known.new.env c.args.env.now c.args.spot.slots c.args.to c.requires.after c.are_known.ensures.kept) c.look_at_all.ensures.finds
+
+pub values-returns-clause-kept : goal.values-returns-clause-kept
+values-returns-clause-kept t c =
+    c.look_at_all.ensures.kept ∙ step.take_fewer c.are_known.new.env c.args.env.now c.args.spot.slots c.args.to c.requires.after c.are_known.ensures.kept
+
+pub values-returns-then-are_known-clause-asks : goal.values-returns-then-are_known-clause-asks
+values-returns-then-are_known-clause-asks t c = asks_none c.args.asks.now
+
+pub look_at_all-returns-in_default-clause-finds : goal.look_at_all-returns-in_default-clause-finds
+look_at_all-returns-in_default-clause-finds t c =
     let e : c.args.ts.now ≡ [] = nil_from_length c.args.ts.now c.in_default.ensures.cases in
     finds_all_is (ap shown_terms e) (whole.finds_nil (ap (λ (x : List declared.Term). Some (take (length x) (drop c.args.to c.args.env.now))) (sym e)))
 
-pub values-operand-found-requires : goal.values-operand-found-requires
-values-operand-found-requires t c =
+pub look_at_all-operand-found-requires : goal.look_at_all-operand-found-requires
+look_at_all-operand-found-requires t c =
     let e : c.args.ts.now ≡ c.in-Some.first.now ∷ c.in-Some.rest.now = c.in-Some.ensures.cases.0 in
     let shape = ap shown_terms e in
     (search rules, part.may_first (look_all_is shape c.requires.may))
 
-pub values-values-ready-requires : goal.values-values-ready-requires
-values-values-ready-requires t c =
+pub look_at_all-look_at_all-ready-requires : goal.look_at_all-look_at_all-ready-requires
+look_at_all-look_at_all-ready-requires t c =
     let some = some_nodes (shown_term c.in-Some.first.now) in
     let e : c.args.ts.now ≡ c.in-Some.first.now ∷ c.in-Some.rest.now = c.in-Some.ensures.cases.0 in
     let shape = ap shown_terms e in
@@ -435,30 +455,30 @@ values-values-ready-requires t c =
       ),
     )
 
-pub values-returns-then-found-clause-finds : goal.values-returns-then-found-clause-finds
-values-returns-then-found-clause-finds t c =
+pub look_at_all-returns-then-found-clause-finds : goal.look_at_all-returns-then-found-clause-finds
+look_at_all-returns-then-found-clause-finds t c =
     let B = back_at c.args.facts.now.stages.now in
     let E = take c.args.spot.slots c.args.env.now in
     let e : c.args.ts.now ≡ c.in-Some.first.now ∷ c.in-Some.rest.now = c.in-Some.ensures.cases.0 in
     let h = look_all_is (ap shown_terms e) c.requires.may in
     let ft = c.if-found.ensures.finds in
-    let fs = whole.finds_all_slots c.after.ensures.slots refl c.values-ready.ensures.finds in
+    let fs = whole.finds_all_slots c.after.ensures.slots refl c.look_at_all-ready.ensures.finds in
     let long = ap (λ (x : List declared.Term). length x) e in
     let rest = sym (step.answers_is B c.operand-found.ensures.kept refl) ∙ fs.words in
-    let within : c.args.to < length c.values-ready.new.env = omega (arith, long, c.requires.places, c.operand-found.auto.env, c.values-ready.auto.env) in
+    let within : c.args.to < length c.look_at_all-ready.new.env = omega (arith, long, c.requires.places, c.operand-found.auto.env, c.look_at_all-ready.auto.env) in
     finds_all_is (ap shown_terms e) (whole.finds_more h ft c.operand-found.ensures.kept (c.after.ensures.at ∙ part.after_first h) fs
     (step.answers_more B E _ (shown_term c.in-Some.first.now) c.operand-found.new.word _ ft.word rest
-    ∙ (step.words_more c.values-ready.new.env c.args.to (length c.in-Some.rest.now) c.operand-found.new.word c.values-ready.result within
-    ∙ ap (λ n. cond c.values-ready.result (Some (take n (drop c.args.to (slice_set c.values-ready.new.env c.args.to c.operand-found.new.word)))) None) (sym long))))
+    ∙ (step.words_more c.look_at_all-ready.new.env c.args.to (length c.in-Some.rest.now) c.operand-found.new.word c.look_at_all-ready.result within
+    ∙ ap (λ n. cond c.look_at_all-ready.result (Some (take n (drop c.args.to (slice_set c.look_at_all-ready.new.env c.args.to c.operand-found.new.word)))) None) (sym long))))
 
-pub values-returns-else-found-clause-finds : goal.values-returns-else-found-clause-finds
-values-returns-else-found-clause-finds t c =
+pub look_at_all-returns-else-found-clause-finds : goal.look_at_all-returns-else-found-clause-finds
+look_at_all-returns-else-found-clause-finds t c =
     let B = back_at c.args.facts.now.stages.now in
     let E = take c.args.spot.slots c.args.env.now in
     let e : c.args.ts.now ≡ c.in-Some.first.now ∷ c.in-Some.rest.now = c.in-Some.ensures.cases.0 in
     let h = look_all_is (ap shown_terms e) c.requires.may in
     let ft = c.if-found.ensures.finds in
-    let fs = whole.finds_all_slots c.after.ensures.slots refl c.values-ready.ensures.finds in
+    let fs = whole.finds_all_slots c.after.ensures.slots refl c.look_at_all-ready.ensures.finds in
     finds_all_is (ap shown_terms e) (whole.finds_more h ft c.operand-found.ensures.kept (c.after.ensures.at ∙ part.after_first h) fs (step.answers_not B E _ (shown_term c.in-Some.first.now) ft.word))
 
 -- ---- the sites that are asked for
@@ -528,11 +548,11 @@ pair-returns-then-first-clause-asks t c = asks_both c.operand-first.ensures.asks
 pub pair-returns-else-first-clause-asks : goal.pair-returns-else-first-clause-asks
 pair-returns-else-first-clause-asks t c = asks_both c.operand-first.ensures.asks c.operand-second.ensures.asks
 
-pub values-returns-in_default-clause-asks : goal.values-returns-in_default-clause-asks
-values-returns-in_default-clause-asks t c = asks_none c.args.asks.now
+pub look_at_all-returns-in_default-clause-asks : goal.look_at_all-returns-in_default-clause-asks
+look_at_all-returns-in_default-clause-asks t c = asks_none c.args.asks.now
 
-pub values-returns-then-found-clause-asks : goal.values-returns-then-found-clause-asks
-values-returns-then-found-clause-asks t c = asks_both c.operand-found.ensures.asks c.values-ready.ensures.asks
+pub look_at_all-returns-then-found-clause-asks : goal.look_at_all-returns-then-found-clause-asks
+look_at_all-returns-then-found-clause-asks t c = asks_both c.operand-found.ensures.asks c.look_at_all-ready.ensures.asks
 
-pub values-returns-else-found-clause-asks : goal.values-returns-else-found-clause-asks
-values-returns-else-found-clause-asks t c = asks_both c.operand-found.ensures.asks c.values-ready.ensures.asks
+pub look_at_all-returns-else-found-clause-asks : goal.look_at_all-returns-else-found-clause-asks
+look_at_all-returns-else-found-clause-asks t c = asks_both c.operand-found.ensures.asks c.look_at_all-ready.ensures.asks
