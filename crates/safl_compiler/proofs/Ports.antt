@@ -10,7 +10,7 @@ use Rattle.safl_net.specs.Arguments.{argument_widths}
 use Rattle.safl_sites.specs.Plan.{Choice}
 use Rattle.safl_circuit.specs.Layout.{Line, named, each_line, input_kind}
 use Rattle.safl_circuit.specs.Scheme.{Scheme}
-use Rattle.safl_unit.proofs.Layers.{not_start}
+use Rattle.safl_unit.proofs.assembly.Layers.{not_start}
 
 -- the widths of the lines whose name is not `start`
 abbrev port_widths : List Line → List ℕ

@@ -1,5 +1,5 @@
 -- Bits and loads in a row that is joined of two.
-use Rattle.std.proofs.Common.{◌≡◌, ℕ, suc, ◌+◌, ◌<◌, ◌≤◌, List, [], ◌∷◌, ◌++◌, length, length-append, map, take, drop, slice_index_or, Option, Some}
+use Rattle.std.proofs.Common.{◌≡◌, ℕ, suc, ◌+◌, ◌*◌, ◌<◌, ◌≤◌, List, [], ◌∷◌, ◌++◌, length, length-append, map, take, drop, slice_index_or, Option, Some}
 use Rattle.std.proofs.Common.{Vec, Global, Bool, true, false, cond, slice_get, slice_set, zero, ◌==◌, not, ◌&&◌, ◌||◌, refl, sym, ap, subst}
 use Rattle.std.proofs.Common.{◌∙◌, arith}
 use Rattle.std.proofs.lemmas.List.{take-append-drop}
@@ -196,6 +196,10 @@ bits_longer (x ∷ l) s = let h = length-append l (s ∷ []) in omega (arith, h)
 pub loads_longer : (l : List Load) (x : Load) → load_joins (l ++ x ∷ []) ≤ load_joins l + (1 + length x.words.items)
 loads_longer [] x = omega arith
 loads_longer (y ∷ l) x = let h = row_append l (x ∷ []) in omega (arith, h)
+
+pub four_total : (rows : List (Vec Sig Global)) → total (λ xs. 4 * bit_joins xs) rows ≡ 4 * total bit_joins rows
+four_total [] = refl
+four_total (r ∷ rows) = let h = four_total rows in omega (arith, h)
 
 -- the rows up to a number
 pub total_next : {A : Type 0} (g : List A → ℕ) (xs : List (Vec A Global)) (i : ℕ) (r : Vec A Global) → slice_get xs i ≡ Some r → total g (take (suc i) xs) ≡ total g (take i xs) + g r.items

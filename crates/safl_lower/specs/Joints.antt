@@ -7,8 +7,8 @@ use Rattle.safl_net.specs.Bits.{on}
 use Rattle.safl_lower.specs.declared.loads.Load.{Load}
 use Rattle.safl_lower.specs.declared.trees.Several.{Several}
 use Rattle.safl_lower.specs.Sources.{IsSource}
-use Rattle.safl_lower.specs.Tables.{taken_in, on_in, IsBitIn}
-use Rattle.safl_lower.specs.Rows.{AreBits, on_any, on_two, frees, first_taken, maybe_one}
+use Rattle.safl_lower.specs.Tables.{taken_in, on_in, IsBitIn, FitsIn, entry_in}
+use Rattle.safl_lower.specs.Rows.{AreBits, AllFit, on_any, on_two, frees, first_taken, maybe_one}
 use Rattle.safl_lower.specs.Heights.{Within, AllWithin, Stands, load_parts, parts}
 
 -- The bit that is 1 if one of the row is. With at most 2^h bits, it is at most h gates above them.
@@ -30,6 +30,11 @@ pub record IsFirstOf (n : Netlist) (row : List Load) (o : Option Load) : Type 0 
   pub shows : (v : Val) → Wired n v → taken_in v o ≡ first_taken v row
   pub height : (h : ℕ) → length row ≤ 2 ^ h → AllWithin n (parts row) h (load_parts o)
 
+-- that load, with the widths that the row's loads had before it was joined
+pub record IsFirstIn (old n : Netlist) (row : List Load) (o : Option Load) : Type 0 where
+  pub fits : (ws : List ℕ) → AllFit old row ws → FitsIn n o ws
+  pub first : IsFirstOf n row o
+
 -- Whether one bit of the row is 1, and whether two are. With at most 2^h bits, these are at most h and 3h gates above them.
 pub record IsSeveralOf (n : Netlist) (row : List Sig) (s : Several) : Type 0 where
   pub any_fits : IsSource n s.any 1
@@ -46,5 +51,4 @@ IsSeveralIn n row (Some s) = IsSeveralOf n row s
 
 -- the entry of a number, if there is one
 abbrev pub several_in : Option (Option Several) → Option Several
-several_in None = None
-several_in (Some o) = o
+several_in o = entry_in o

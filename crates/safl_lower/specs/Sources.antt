@@ -25,6 +25,10 @@ pub record Builds (old new : Netlist) (most : ℕ) : Type 0 where
   pub settles : Settles old new
   pub count : length new.signals ≤ length old.signals + most
 
+-- it is so in the net, and in every net that is built on it
+abbrev pub Lasts : (Netlist → Type 0) → Netlist → Type 0
+Lasts P old = (new : Netlist) (most : ℕ) → Builds old new most → P new
+
 -- the net has room for this many more signals
 abbrev pub HasRoom : Netlist → ℕ → Type 0
 HasRoom n most = length n.signals + most < count_max

@@ -25,10 +25,13 @@ abbrev pub taken_in : Val → Option Load → Option (List Word)
 taken_in v None = None
 taken_in v (Some l) = taken v l
 
--- the load at a place, if there is one
+-- the entry at a place, if there is one
+abbrev pub entry_in : {A : Type 0} → Option (Option A) → Option A
+entry_in None = None
+entry_in (Some o) = o
+
 abbrev pub load_in : Option (Option Load) → Option Load
-load_in None = None
-load_in (Some o) = o
+load_in o = entry_in o
 
 -- the words that a table of loads takes at a place
 abbrev pub taken_at : Val → List Load → ℕ → Option (List Word)
@@ -43,8 +46,7 @@ on_in v None = false
 on_in v (Some s) = on v s
 
 abbrev pub sig_in : Option (Option Sig) → Option Sig
-sig_in None = None
-sig_in (Some o) = o
+sig_in o = entry_in o
 
 abbrev pub on_from : Val → List (Option Sig) → ℕ → Bool
 on_from v xs i = on_in v (sig_in (slice_get xs i))

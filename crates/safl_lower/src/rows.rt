@@ -1,11 +1,12 @@
 //! Rows of bits and of loads. Each row is collected first and then joined by halves.
 
-ghost use Rattle.std.specs.Prelude.{◌≡◌, ℕ, ◌+◌, ◌*◌, ◌<◌, ◌≤◌, ◌==◌, ◌++◌, List, [], ◌∷◌, cond, length, slice_get, IfOk, OnOk};
+ghost use Rattle.std.specs.Prelude.{◌≡◌, ℕ, ◌+◌, ◌*◌, ◌<◌, ◌≤◌, ◌==◌, ◌++◌, List, [], ◌∷◌, Option, None, refl, cond, length, slice_get, IfOk, OnOk};
 ghost use Rattle.safl_net.specs.Names.{IsTidy};
-ghost use Rattle.safl_lower.specs.Sources.{Builds, CanGrow};
-ghost use Rattle.safl_lower.specs.Tables.{FitsIn, SomeFit, load_in, sig_in};
+ghost use Rattle.safl_net.specs.Netlist.{Netlist};
+ghost use Rattle.safl_lower.specs.Sources.{Builds, CanGrow, Lasts};
+ghost use Rattle.safl_lower.specs.Tables.{SomeFit, entry_in, load_in, sig_in};
 ghost use Rattle.safl_lower.specs.Rows.{AreBits, AllFit, maybe_one, bit_joins, load_joins, row_at, total, RowsAreBits, RowsFit};
-ghost use Rattle.safl_lower.specs.Joints.{IsAnyOf, IsFirstOf, IsSeveralIn, several_in};
+ghost use Rattle.safl_lower.specs.Joints.{IsAnyOf, IsFirstOf, IsFirstIn, IsSeveralIn, several_in};
 
 use crate::loads::Load;
 use crate::trees::{Several, any_of, first_of, several_of};
@@ -13,20 +14,32 @@ use safl_net::{Net, Sig};
 use safl_word::NoMemory;
 use std::alloc::Global;
 
-/// `count` empty rows of bits.
-pub fn no_rows(alloc: Global, count: u32) -> Result<Vec<Vec<Sig>>, NoMemory>
-    ensures count { IfOk result (λ rows. length rows.items ≡ count) }
-    ensures bare { IfOk result (λ rows. (i : ℕ) → row_at rows.items i ≡ []) }
-{
-    let mut rows = Vec::new(alloc);
-    for _i in 0..count {
-        rows.push(Vec::new(alloc))?;
-    }
-    Ok(rows)
+/// What a row of items is joined to, with the gates that it takes. An empty row may be joined to nothing.
+pub trait Joins {
+    type Item;
+
+    /// The items may be joined in this net.
+    ghost Fits: { Netlist → List Self.Item → Type 0 };
+
+    /// The most gates that join a row.
+    ghost gates: { List Self.Item → ℕ };
+
+    /// A row that fitted the first net is joined to this in the second.
+    ghost Joined: { Netlist → Netlist → List Self.Item → Option Self → Type 0 };
+
+    /// Joins a row.
+    fn join(alloc: Global, net: &mut Net, row: &[Self::Item]) -> Result<Option<Self>, NoMemory>
+        requires fits { Fits net.old row.now }
+        requires room { CanGrow net.old (gates row.now) }
+        ensures tidy { IsTidy net.new }
+        ensures built { OnOk result (Builds net.old net.new (gates row.now)) }
+        ensures joined { IfOk result (λ o. (a : Netlist) (k : ℕ) → Builds a net.old k → Lasts (λ n. Joined a n row.now o) net.new) };
+
+    ghost joined_none: { (a b : Netlist) → Joined a b [] None };
 }
 
-/// `count` empty rows of loads.
-pub fn no_load_rows(alloc: Global, count: u32) -> Result<Vec<Vec<Load>>, NoMemory>
+/// `count` empty rows.
+pub fn no_rows<T: Drop>(alloc: Global, count: u32) -> Result<Vec<Vec<T>>, NoMemory>
     ensures count { IfOk result (λ rows. length rows.items ≡ count) }
     ensures bare { IfOk result (λ rows. (i : ℕ) → row_at rows.items i ≡ []) }
 {
@@ -72,35 +85,88 @@ pub fn push_load(rows: &mut Vec<Vec<Load>>, place: usize, load: Load) -> Result<
     Ok(())
 }
 
-/// The bit that is 1 if one of these is. None if there are no bits.
-pub fn any_or_none(net: &mut Net, bits: &[Sig]) -> Result<Option<Sig>, NoMemory>
-    requires bits { AreBits net.old bits.now }
-    requires room { CanGrow net.old (bit_joins bits.now) }
-    ensures tidy { IsTidy net.new }
-    ensures built { OnOk result (Builds net.old net.new (bit_joins bits.now)) }
-    ensures joined { IfOk result (λ b. IsAnyOf net.new bits.now b) }
-{
-    if bits.len() == 0 {
-        return Ok(None);
+// The bit that is 1 if one of the row is.
+impl Joins for Sig {
+    type Item = Sig;
+
+    ghost Fits = { AreBits };
+
+    ghost gates = { bit_joins };
+
+    ghost Joined = { λ a b row o. IsAnyOf b row o };
+
+    ghost joined_none = { λ a b. record { fits = tt; shows = λ v w. refl; height = λ h l. tt } };
+
+    fn join(_alloc: Global, net: &mut Net, row: &[Sig]) -> Result<Option<Sig>, NoMemory> {
+        if row.len() == 0 {
+            return Ok(None);
+        }
+        let any = any_of(net, row)?;
+        Ok(Some(any))
     }
-    let any = any_of(net, bits)?;
-    Ok(Some(any))
 }
 
-/// The first of these loads that is taken. None if there are no loads.
-pub fn first_or_none(alloc: Global, net: &mut Net, loads: &[Load]) -> Result<Option<Load>, NoMemory>
-    requires fits { (ws : List ℕ) × AllFit net.old loads.now ws }
-    requires room { CanGrow net.old (load_joins loads.now) }
-    ensures tidy { IsTidy net.new }
-    ensures built { OnOk result (Builds net.old net.new (load_joins loads.now)) }
-    ensures fits { (ws : List ℕ) → AllFit net.old loads.now ws → IfOk result (λ o. FitsIn net.new o ws) }
-    ensures joined { IfOk result (λ o. IsFirstOf net.new loads.now o) }
-{
-    if loads.len() == 0 {
-        return Ok(None);
+// The first of the row's loads that is taken.
+impl Joins for Load {
+    type Item = Load;
+
+    ghost Fits = { λ n row. (ws : List ℕ) × AllFit n row ws };
+
+    ghost gates = { load_joins };
+
+    ghost Joined = { IsFirstIn };
+
+    ghost joined_none = { λ a b. record { fits = λ ws f. tt; first = record { shows = λ v w. refl; height = λ h l. tt } } };
+
+    fn join(alloc: Global, net: &mut Net, row: &[Load]) -> Result<Option<Load>, NoMemory> {
+        if row.len() == 0 {
+            return Ok(None);
+        }
+        let first = first_of(alloc, net, row)?;
+        Ok(Some(first))
     }
-    let first = first_of(alloc, net, loads)?;
-    Ok(Some(first))
+}
+
+// Whether one bit of the row is 1, and whether two are.
+impl Joins for Several {
+    type Item = Sig;
+
+    ghost Fits = { AreBits };
+
+    ghost gates = { λ row. 4 * bit_joins row };
+
+    ghost Joined = { λ a b row o. IsSeveralIn b row o };
+
+    ghost joined_none = { λ a b. refl };
+
+    fn join(_alloc: Global, net: &mut Net, row: &[Sig]) -> Result<Option<Several>, NoMemory> {
+        if row.len() == 0 {
+            return Ok(None);
+        }
+        let several = several_of(net, row)?;
+        Ok(Some(several))
+    }
+}
+
+/// What each row is joined to.
+pub fn join_rows<J: Joins + Drop>(
+    alloc: Global,
+    net: &mut Net,
+    rows: &[Vec<J::Item>],
+) -> Result<Vec<Option<J>>, NoMemory>
+    requires fits { (i : ℕ) → Lasts (λ n. J.Fits n (row_at rows.now i)) net.old }
+    requires room { CanGrow net.old (total J.gates rows.now) }
+    ensures tidy { IsTidy net.new }
+    ensures built { OnOk result (Builds net.old net.new (total J.gates rows.now)) }
+    ensures count { IfOk result (λ all. length all.items ≡ length rows.now) }
+    ensures joined { IfOk result (λ all. (i : ℕ) → J.Joined net.old net.new (row_at rows.now i) (entry_in (slice_get all.items i))) }
+{
+    let mut all = Vec::new(alloc);
+    for i in 0..rows.len() {
+        let next = J::join(alloc, net, &rows[i])?;
+        all.push(next)?;
+    }
+    Ok(all)
 }
 
 /// For each row, the bit that is 1 if one of the row is.
@@ -116,12 +182,7 @@ pub fn join_bits(
     ensures count { IfOk result (λ bits. length bits.items ≡ length rows.now) }
     ensures joined { IfOk result (λ bits. (i : ℕ) → IsAnyOf net.new (row_at rows.now i) (sig_in (slice_get bits.items i))) }
 {
-    let mut bits = Vec::new(alloc);
-    for i in 0..rows.len() {
-        let bit = any_or_none(net, &rows[i])?;
-        bits.push(bit)?;
-    }
-    Ok(bits)
+    join_rows(alloc, net, rows)
 }
 
 /// For each row, its first load that is taken.
@@ -138,27 +199,7 @@ pub fn join_loads(
     ensures fits { (ws : ℕ → List ℕ) → RowsFit net.old rows.now ws → IfOk result (λ all. SomeFit net.new all.items ws) }
     ensures joined { IfOk result (λ all. (i : ℕ) → IsFirstOf net.new (row_at rows.now i) (load_in (slice_get all.items i))) }
 {
-    let mut all = Vec::new(alloc);
-    for i in 0..rows.len() {
-        let load = first_or_none(alloc, net, &rows[i])?;
-        all.push(load)?;
-    }
-    Ok(all)
-}
-
-/// Whether one of these bits is 1, and whether two are. None if there are no bits.
-pub fn several_or_none(net: &mut Net, bits: &[Sig]) -> Result<Option<Several>, NoMemory>
-    requires bits { AreBits net.old bits.now }
-    requires room { CanGrow net.old (4 * bit_joins bits.now) }
-    ensures tidy { IsTidy net.new }
-    ensures built { OnOk result (Builds net.old net.new (4 * bit_joins bits.now)) }
-    ensures joined { IfOk result (λ s. IsSeveralIn net.new bits.now s) }
-{
-    if bits.len() == 0 {
-        return Ok(None);
-    }
-    let several = several_of(net, bits)?;
-    Ok(Some(several))
+    join_rows(alloc, net, rows)
 }
 
 /// For each row, whether one of its bits is 1, and whether two are.
@@ -174,10 +215,5 @@ pub fn join_several(
     ensures count { IfOk result (λ all. length all.items ≡ length rows.now) }
     ensures joined { IfOk result (λ all. (i : ℕ) → IsSeveralIn net.new (row_at rows.now i) (several_in (slice_get all.items i))) }
 {
-    let mut all = Vec::new(alloc);
-    for i in 0..rows.len() {
-        let several = several_or_none(net, &rows[i])?;
-        all.push(several)?;
-    }
-    Ok(all)
+    join_rows(alloc, net, rows)
 }

@@ -13,9 +13,7 @@ ghost use Rattle.safl_unit.specs.Edges.{bit_of, ShowsEnds, ShowsArguments, Shows
 
 use crate::pins::Outcomes;
 use safl_lower::loads::{Load, add_bit, load_of};
-use safl_lower::rows::{
-    join_bits, join_loads, no_load_rows, no_rows, push_at, push_load, push_some,
-};
+use safl_lower::rows::{join_bits, join_loads, no_rows, push_at, push_load, push_some};
 use safl_net::{Net, Sig};
 use safl_sites::Planned;
 use safl_term::Checked;
@@ -36,7 +34,7 @@ pub fn unit_ends(
     ensures done { IfOk result (λ all. ShowsEnds p.now.program net.new outcomes.now all.items) }
 {
     let functions = function_count(p);
-    let mut rows = no_load_rows(alloc, functions)?;
+    let mut rows = no_rows(alloc, functions)?;
     for f in 0..functions {
         let end = &outcomes.ends[f as usize];
         let unit = unit_of(p, f);
@@ -63,7 +61,7 @@ pub fn function_loads(
     ensures done { IfOk result (λ all. ShowsArguments p.now.program net.new outcomes.now goes.now all.items) }
 {
     let functions = function_count(p);
-    let mut rows = no_load_rows(alloc, functions)?;
+    let mut rows = no_rows(alloc, functions)?;
     let sites = site_count(p);
     for k in 0..sites + 1 {
         let want = &outcomes.wants[k as usize];

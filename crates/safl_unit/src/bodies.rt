@@ -20,7 +20,7 @@ use crate::names::has_peers;
 use crate::pins::{Outcomes, Pins, Returns};
 use safl_lower::gates::both;
 use safl_lower::loads::Load;
-use safl_lower::rows::{join_loads, no_load_rows, push_load};
+use safl_lower::rows::{join_loads, no_rows, push_load};
 use safl_lower::{Body, Ports, SitePorts, lower};
 use safl_net::{Net, Sig};
 use safl_sites::Planned;
@@ -76,7 +76,7 @@ fn no_outcomes(alloc: Global, functions: u32, pins: &Pins) -> Result<Gathered, N
     ensures rows { IfOk result (λ o. (h : ℕ) → row_at o.rows.items h ≡ []) }
     ensures wants { IfOk result (λ o. (x : load) × (o.wants.items ≡ x ∷ []) × (x.bit ≡ pins.now.start) × (x.words.items ≡ pins.now.words.items)) }
 {
-    let rows = no_load_rows(alloc, functions)?;
+    let rows = no_rows(alloc, functions)?;
     let call = main_call(alloc, pins)?;
     let mut wants = Vec::new(alloc);
     wants.push(call)?;

@@ -2,7 +2,6 @@ use Rattle.std.proofs.Common.{rules, ◌+◌, ◌*◌, ◌<◌, length, refl, sy
 use Rattle.std.proofs.lemmas.Option.{slice_get_read}
 use Rattle.safl_term.specs.Tree.{shown_term, shown_terms}
 use Rattle.safl_term.specs.Sizes.{nodes, nodes_in}
-use Rattle.safl_lower.specs.Typing.{holds_calls}
 use Rattle.safl_lower.proofs.ListedTerms.{smaller_at, holds_at, none_so_far}
 use Rattle.safl_lower.proofs.holding.+holding.Goals as goal
 

@@ -1,7 +1,6 @@
 use Rattle.std.proofs.Common.{ℕ, ◌-◌, length, Bool, ◌||◌, ◌/◌, sym, ap, subst, ◌∙◌, arith}
 use Rattle.safl_net.proofs.Growth.{wired_before}
 use Rattle.safl_net.specs.Bits.{on}
-use Rattle.safl_net.specs.Bits.{gate}
 use Rattle.safl_lower.specs.Rows.{on_any}
 use Rattle.safl_lower.proofs.Building.{builds_on, builds_within, source_kept}
 use Rattle.safl_lower.proofs.JoinedRows.{whole, low_bits, high_bits, row_kept, any_append}
@@ -16,7 +15,6 @@ any_of-requires t c =
     let high = c.split_at.result.1.now in
     let e = whole c.args.bits.now low high (length c.args.bits.now / 2) cut.front cut.back in
     let fl = cut.front_len in
-    let bl = cut.back_len in
     let some = c.requires.some in
     let many = c.if-bits-eq1.false in
     let r = c.requires.room.room in
@@ -58,9 +56,6 @@ either-requires-clause-first t c = source_kept c.in_ok-b.ensures.built c.in_ok-a
 pub returns-clause-built : goal.returns-clause-built
 returns-clause-built t c =
     let cut = c.split_at.ensures in
-    let low = c.split_at.result.0.now in
-    let high = c.split_at.result.1.now in
-    let e = whole c.args.bits.now low high (length c.args.bits.now / 2) cut.front cut.back in
     let fl = cut.front_len in
     let bl = cut.back_len in
     let some = c.requires.some in
@@ -73,10 +68,6 @@ returns-clause-value t c = λ v w.
     let low = c.split_at.result.0.now in
     let high = c.split_at.result.1.now in
     let e = whole c.args.bits.now low high (length c.args.bits.now / 2) cut.front cut.back in
-    let fl = cut.front_len in
-    let bl = cut.back_len in
-    let some = c.requires.some in
-    let many = c.if-bits-eq1.false in
     let w2 = wired_before c.in_ok-any.ensures.built.grows w in
     let w1 = wired_before c.in_ok-b.ensures.built.grows w2 in
     c.in_ok-any.ensures.value v w ∙ ap (λ (x : Bool). x || on v c.in_ok-b.b) (c.in_ok-a.ensures.value v w1) ∙ ap (λ (x : Bool). on_any v low || x) (c.in_ok-b.ensures.value v w2)

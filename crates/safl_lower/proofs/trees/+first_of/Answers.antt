@@ -1,5 +1,5 @@
-use Rattle.std.proofs.Common.{◌≡◌, ℕ, ◌-◌, ◌++◌, List, ◌∷◌, drop, length, slice_index_or, Option, Some}
-use Rattle.std.proofs.Common.{◌+◌, ◌/◌, sym, ap, subst, ◌∙◌, arith}
+use Rattle.std.proofs.Common.{◌≡◌, ℕ, ◌++◌, List, ◌∷◌, drop, length, slice_index_or, Option, Some}
+use Rattle.std.proofs.Common.{◌/◌, sym, ap, subst, ◌∙◌, arith}
 use Rattle.safl_word.specs.Words.{Word}
 use Rattle.std.specs.Option.{option_or}
 use Rattle.safl_net.specs.declared.cell.Sig.{Sig}
@@ -70,10 +70,6 @@ joined-requires-clause-fits t c =
     let low = c.split_at.result.0.now in
     let high = c.split_at.result.1.now in
     let e = whole c.args.loads.now low high (length c.args.loads.now / 2) cut.front cut.back in
-    let fl = cut.front_len in
-    let bl = cut.back_len in
-    let some = c.requires.some in
-    let many = c.if-loads-eq1.false in
     let f = c.requires.fits in
     let a = c.in_ok-a.ensures.fits f.0 (low_fit c.args.net.now c.args.loads.now low high e f.0 f.1) in
     let b = c.in_ok-b.ensures.fits f.0 (fit_kept c.in_ok-a.ensures.built high f.0 (high_fit c.args.net.now c.args.loads.now low high e f.0 f.1)) in
@@ -85,10 +81,6 @@ joined-requires-clause-bit t c =
     let low = c.split_at.result.0.now in
     let high = c.split_at.result.1.now in
     let e = whole c.args.loads.now low high (length c.args.loads.now / 2) cut.front cut.back in
-    let fl = cut.front_len in
-    let bl = cut.back_len in
-    let some = c.requires.some in
-    let many = c.if-loads-eq1.false in
     let f = c.requires.fits in
     (c.in_ok-b.ensures.fits f.0 (fit_kept c.in_ok-a.ensures.built high f.0 (high_fit c.args.net.now c.args.loads.now low high e f.0 f.1))).bit
 
@@ -135,10 +127,6 @@ returns-clause-fits t c = λ ws h.
     let low = c.split_at.result.0.now in
     let high = c.split_at.result.1.now in
     let e = whole c.args.loads.now low high (length c.args.loads.now / 2) cut.front cut.back in
-    let fl = cut.front_len in
-    let bl = cut.back_len in
-    let some = c.requires.some in
-    let many = c.if-loads-eq1.false in
     let a = c.in_ok-a.ensures.fits ws (low_fit c.args.net.now c.args.loads.now low high e ws h) in
     let b = c.in_ok-b.ensures.fits ws (fit_kept c.in_ok-a.ensures.built high ws (high_fit c.args.net.now c.args.loads.now low high e ws h)) in
     c.in_ok-all.ensures.fits ws (load_kept c.in_ok-b.ensures.built a) (subst (λ (xs : List Sig). AreSources c.first_of-2.new.net xs ws) (sym c.deref-2.ensures.value) b.words)
@@ -149,10 +137,6 @@ returns-clause-shows t c = λ v w.
     let low = c.split_at.result.0.now in
     let high = c.split_at.result.1.now in
     let e = whole c.args.loads.now low high (length c.args.loads.now / 2) cut.front cut.back in
-    let fl = cut.front_len in
-    let bl = cut.back_len in
-    let some = c.requires.some in
-    let many = c.if-loads-eq1.false in
     let w2 = wired_before c.in_ok-all.ensures.built.grows w in
     let w1 = wired_before c.in_ok-b.ensures.built.grows w2 in
     c.in_ok-all.ensures.shows v w ∙ ap (λ (xs : List Sig). option_or (taken v c.in_ok-a.a) (gate (on v c.in_ok-b.b.bit) (Some (words v xs)))) c.deref-2.ensures.value

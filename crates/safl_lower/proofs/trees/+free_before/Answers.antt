@@ -1,10 +1,9 @@
-use Rattle.std.proofs.Common.{◌≡◌, ℕ, suc, ◌-◌, ◌*◌, ◌++◌, List, [], ◌∷◌, map, length, Bool, ◌&&◌, ◌||◌, not, ◌+◌, ◌/◌, sym, ap, subst, ◌∙◌, arith}
+use Rattle.std.proofs.Common.{◌≡◌, ℕ, suc, ◌-◌, ◌*◌, ◌++◌, List, [], ◌∷◌, map, length, Bool, ◌&&◌, ◌||◌, not, ◌/◌, sym, ap, subst, ◌∙◌, arith}
 use Rattle.std.proofs.Common.{append_assoc}
 use Rattle.std.proofs.lemmas.List.{length_push, map-append}
 use Rattle.safl_net.specs.declared.cell.Sig.{Sig}
 use Rattle.safl_net.proofs.Growth.{wired_before}
 use Rattle.safl_net.specs.Bits.{on}
-use Rattle.safl_net.specs.Bits.{gate}
 use Rattle.safl_lower.specs.Sources.{IsSource}
 use Rattle.safl_lower.specs.Rows.{AreBits, on_any, frees}
 use Rattle.safl_lower.proofs.Building.{builds_on, builds_within, source_kept}
@@ -21,7 +20,6 @@ free_before-requires t c =
     let high = c.split_at.result.1.now in
     let e = whole c.args.bits.now low high (length c.args.bits.now / 2) cut.front cut.back in
     let fl = cut.front_len in
-    let bl = cut.back_len in
     let some = c.requires.some in
     let many = c.if-bits-eq1.false in
     let r = c.requires.room.room in
@@ -84,9 +82,6 @@ either-requires-clause-second t c = c.in_ok-b.ensures.any.fits
 pub returns-clause-built : goal.returns-clause-built
 returns-clause-built t c =
     let cut = c.split_at.ensures in
-    let low = c.split_at.result.0.now in
-    let high = c.split_at.result.1.now in
-    let e = whole c.args.bits.now low high (length c.args.bits.now / 2) cut.front cut.back in
     let fl = cut.front_len in
     let bl = cut.back_len in
     let some = c.requires.some in
@@ -120,10 +115,6 @@ returns-clause-any t c = record {
       let low = c.split_at.result.0.now in
       let high = c.split_at.result.1.now in
       let e = whole c.args.bits.now low high (length c.args.bits.now / 2) cut.front cut.back in
-      let fl = cut.front_len in
-      let bl = cut.back_len in
-      let some = c.requires.some in
-      let many = c.if-bits-eq1.false in
       let w4 = wired_before c.in_ok-any.ensures.built.grows w in
       let w3 = wired_before c.in_ok-b.ensures.built.grows w4 in
       let w1 = wired_before c.in_ok-rest.ensures.built.grows (wired_before c.in_ok-still.ensures.built.grows w3) in
@@ -158,10 +149,6 @@ returns-clause-frees t c = record {
       let low = c.split_at.result.0.now in
       let high = c.split_at.result.1.now in
       let e = whole c.args.bits.now low high (length c.args.bits.now / 2) cut.front cut.back in
-      let fl = cut.front_len in
-      let bl = cut.back_len in
-      let some = c.requires.some in
-      let many = c.if-bits-eq1.false in
       let w4 = wired_before c.in_ok-any.ensures.built.grows w in
       let w3 = wired_before c.in_ok-b.ensures.built.grows w4 in
       let w2 = wired_before c.in_ok-still.ensures.built.grows w3 in

@@ -1,4 +1,4 @@
-use Rattle.std.proofs.Common.{ℕ, ◌-◌, ◌*◌, ◌/◌, ◌++◌, [], ◌∷◌, length, Bool, ◌&&◌, ◌||◌, sym, ap, subst, ◌∙◌, arith}
+use Rattle.std.proofs.Common.{ℕ, ◌*◌, ◌/◌, ◌++◌, [], ◌∷◌, length, Bool, ◌&&◌, ◌||◌, sym, ap, subst, ◌∙◌, arith}
 use Rattle.safl_net.proofs.Growth.{wired_before}
 use Rattle.safl_net.specs.Bits.{on}
 use Rattle.safl_lower.specs.Tables.{on_in}

@@ -7,8 +7,8 @@ use Rattle.safl_net.specs.Bits.{on}
 use Rattle.safl_lower.specs.Rows.{AreBits, frees, row_at}
 use Rattle.safl_lower.proofs.Building.{builds_on, builds_within}
 use Rattle.safl_lower.proofs.JoinedRows.{row_kept}
-use Rattle.safl_unit.proofs.Keeping.{pins_kept}
-use Rattle.safl_unit.proofs.Arbiting.{row_there, tally_room, rows_more}
+use Rattle.safl_unit.proofs.equations.Keeping.{pins_kept}
+use Rattle.safl_unit.proofs.equations.Arbiting.{row_there, tally_room, rows_more}
 use Rattle.safl_unit.proofs.arbiters.unit_frees.Goals as goal
 
 pub unit_row-requires-clause-wants : goal.unit_row-requires-clause-wants

@@ -3,8 +3,8 @@ use Rattle.safl_term.specs.Program.{unit_for}
 use Rattle.safl_net.specs.declared.cell.Sig.{Sig}
 use Rattle.safl_lower.specs.Tables.{bit_or}
 use Rattle.safl_unit.specs.Arbiters.{want_at, site_row}
-use Rattle.safl_unit.proofs.Indexing.{site_at}
-use Rattle.safl_unit.proofs.Arbiting.{row_zero, row_next, no_rank, more_ranks, row_there}
+use Rattle.safl_unit.proofs.equations.Indexing.{site_at}
+use Rattle.safl_unit.proofs.equations.Arbiting.{row_zero, row_next, no_rank, more_ranks, row_there}
 use Rattle.safl_unit.proofs.arbiters.unit_wants.Goals as goal
 
 pub loop-done-init : goal.loop-done-init

@@ -4,7 +4,7 @@ use Rattle.safl_lower.specs.Tables.{taken_from, on_in}
 use Rattle.safl_lower.proofs.Building.{builds_same, builds_on, builds_within}
 use Rattle.safl_lower.proofs.KnownLoads.{maybe_bit_kept}
 use Rattle.safl_unit.specs.Edges.{one_below, ShowsBits}
-use Rattle.safl_unit.proofs.Chains.{bits_of_loads, start_bits, more_bits, loop_there, loop_fits, loop_shown}
+use Rattle.safl_unit.proofs.equations.Chains.{bits_of_loads, start_bits, more_bits, loop_there, loop_fits, loop_shown}
 use Rattle.safl_unit.proofs.arrivals.function_entries.Goals as goal
 
 pub loop-h-init : goal.loop-h-init

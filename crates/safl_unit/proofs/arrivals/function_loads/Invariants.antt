@@ -4,7 +4,7 @@ use Rattle.safl_net.specs.Bits.{on, gate}
 use Rattle.safl_lower.specs.Tables.{pin}
 use Rattle.safl_lower.specs.Rows.{load_joins, total}
 use Rattle.safl_unit.specs.Edges.{operands_in}
-use Rattle.safl_unit.proofs.Chains.{LoadRows}
+use Rattle.safl_unit.proofs.equations.Chains.{LoadRows}
 use Rattle.safl_unit.proofs.arrivals.function_loads.Given as goal
 
 abbrev pub invariant-loop-k : goal.invariant-loop-k

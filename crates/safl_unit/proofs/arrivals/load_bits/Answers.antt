@@ -4,7 +4,7 @@ use Rattle.std.proofs.lemmas.Option.{slice_get_read}
 use Rattle.safl_net.specs.declared.cell.Sig.{Sig}
 use Rattle.safl_lower.specs.declared.loads.Load.{Load}
 use Rattle.safl_unit.specs.Edges.{bit_of}
-use Rattle.safl_unit.proofs.Chains.{bits_next}
+use Rattle.safl_unit.proofs.equations.Chains.{bits_next}
 use Rattle.safl_unit.proofs.arrivals.load_bits.Goals as goal
 
 pub loop-i-preserved : goal.loop-i-preserved

@@ -7,7 +7,7 @@ use Rattle.safl_lower.specs.declared.loads.Load.{Load}
 use Rattle.safl_lower.specs.Tables.{load_in}
 use Rattle.safl_lower.specs.Rows.{maybe_one, row_at}
 use Rattle.safl_unit.specs.Edges.{bit_of}
-use Rattle.safl_unit.proofs.Chains.{load_rows_more}
+use Rattle.safl_unit.proofs.equations.Chains.{load_rows_more}
 use Rattle.safl_unit.proofs.arrivals.load_rows.Goals as goal
 
 pub loop-i-init : goal.loop-i-init

@@ -5,7 +5,7 @@ use Rattle.safl_lower.specs.Tables.{load_in, taken_from}
 use Rattle.safl_lower.specs.Rows.{bit_joins, total, RowsAreBits}
 use Rattle.safl_lower.proofs.Building.{builds_within}
 use Rattle.safl_unit.specs.Edges.{one_below, bit_of, ShowsBits}
-use Rattle.safl_unit.proofs.Chains.{BitRows, load_rows_total, start_load_rows, more_some_rows, joined_bits, loop_there, loop_fits, loop_shown}
+use Rattle.safl_unit.proofs.equations.Chains.{BitRows, load_rows_total, start_load_rows, more_some_rows, joined_bits, loop_there, loop_fits, loop_shown}
 use Rattle.safl_unit.proofs.arrivals.unit_clears.Goals as goal
 
 pub loop-h-init : goal.loop-h-init

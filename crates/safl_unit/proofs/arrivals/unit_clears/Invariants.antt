@@ -2,7 +2,7 @@ use Rattle.std.proofs.Common.{◌≤◌, ◌==◌, ◌&&◌, ◌||◌, is_some}
 use Rattle.safl_lower.specs.Tables.{taken_from}
 use Rattle.safl_lower.specs.Rows.{bit_joins, total}
 use Rattle.safl_unit.specs.Edges.{one_below}
-use Rattle.safl_unit.proofs.Chains.{BitRows}
+use Rattle.safl_unit.proofs.equations.Chains.{BitRows}
 use Rattle.safl_unit.proofs.arrivals.unit_clears.Given as goal
 
 abbrev pub invariant-loop-h : goal.invariant-loop-h

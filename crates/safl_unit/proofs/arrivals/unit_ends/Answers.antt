@@ -9,7 +9,7 @@ use Rattle.safl_lower.specs.Rows.{load_joins, total, RowsFit}
 use Rattle.safl_unit.specs.Edges.{ShowsLoads}
 use Rattle.safl_lower.proofs.Building.{builds_same, builds_within}
 use Rattle.safl_lower.proofs.JoinedRows.{total_bare}
-use Rattle.safl_unit.proofs.Chains.{LoadRows, bare_load_rows, more_load_rows, joined_loads, load_fits, taken_shown, operands_fit, end_there, end_shown}
+use Rattle.safl_unit.proofs.equations.Chains.{LoadRows, bare_load_rows, more_load_rows, joined_loads, load_fits, taken_shown, operands_fit, end_there, end_shown}
 use Rattle.safl_unit.proofs.arrivals.unit_ends.Goals as goal
 
 pub loop-f-init : goal.loop-f-init

@@ -3,7 +3,7 @@ use Rattle.safl_calls.specs.Picks.{first}
 use Rattle.safl_net.specs.Bits.{gate}
 use Rattle.safl_lower.specs.Tables.{taken_at}
 use Rattle.safl_lower.specs.Rows.{load_joins, total}
-use Rattle.safl_unit.proofs.Chains.{LoadRows}
+use Rattle.safl_unit.proofs.equations.Chains.{LoadRows}
 use Rattle.safl_unit.proofs.arrivals.unit_ends.Given as goal
 
 abbrev pub invariant-loop-f : goal.invariant-loop-f

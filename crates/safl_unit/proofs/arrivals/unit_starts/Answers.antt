@@ -8,7 +8,7 @@ use Rattle.safl_lower.specs.Rows.{bit_joins, total, RowsAreBits}
 use Rattle.safl_lower.proofs.Building.{builds_within}
 use Rattle.safl_lower.proofs.JoinedRows.{total_bare}
 use Rattle.safl_unit.specs.Edges.{one_below, ShowsBits}
-use Rattle.safl_unit.proofs.Chains.{BitRows, bare_bit_rows, more_bit_rows, joined_bits}
+use Rattle.safl_unit.proofs.equations.Chains.{BitRows, bare_bit_rows, more_bit_rows, joined_bits}
 use Rattle.safl_unit.proofs.arrivals.unit_starts.Goals as goal
 
 pub loop-k-init : goal.loop-k-init

@@ -4,7 +4,7 @@ use Rattle.safl_net.specs.Bits.{on}
 use Rattle.safl_lower.specs.Tables.{pin}
 use Rattle.safl_lower.specs.Rows.{bit_joins, total}
 use Rattle.safl_unit.specs.Edges.{one_below}
-use Rattle.safl_unit.proofs.Chains.{BitRows}
+use Rattle.safl_unit.proofs.equations.Chains.{BitRows}
 use Rattle.safl_unit.proofs.arrivals.unit_starts.Given as goal
 
 abbrev pub invariant-loop-k : goal.invariant-loop-k

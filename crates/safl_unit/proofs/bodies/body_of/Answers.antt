@@ -8,7 +8,7 @@ use Rattle.safl_net.specs.Bits.{on}
 use Rattle.safl_circuit.specs.Equations.{path}
 use Rattle.safl_unit.specs.Cycles.{InEachCycle}
 use Rattle.safl_unit.specs.Outcomes.{AreOwnPorts}
-use Rattle.safl_unit.proofs.Lowered.{body_able, all_built, all_has}
+use Rattle.safl_unit.proofs.equations.Lowered.{body_able, all_built, all_has}
 use Rattle.safl_unit.proofs.bodies.body_of.Goals as goal
 
 pub own_ports-requires-clause-checked : goal.own_ports-requires-clause-checked

@@ -3,7 +3,7 @@ use Rattle.std.proofs.lemmas.Option.{slice_get_read}
 use Rattle.std.proofs.lemmas.Result.{IfOk-weaker}
 use Rattle.safl_net.specs.Bits.{on}
 use Rattle.safl_circuit.specs.Equations.{many}
-use Rattle.safl_unit.proofs.Keeping.{cycle_before}
+use Rattle.safl_unit.proofs.equations.Keeping.{cycle_before}
 use Rattle.safl_unit.proofs.bodies.body_path.Goals as goal
 
 alone : (a b m : Bool) → m ≡ false → a ≡ (a && (not m || b))

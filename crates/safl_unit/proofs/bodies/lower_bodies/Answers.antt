@@ -9,10 +9,10 @@ use Rattle.safl_unit.specs.declared.pins.Outcomes.{Outcomes}
 use Rattle.safl_unit.specs.declared.bodies.Gathered.{Gathered}
 use Rattle.safl_term.specs.Sizes.{body_nodes}
 use Rattle.safl_unit.specs.Outcomes.{PushesLoads}
-use Rattle.safl_unit.proofs.Keeping.{pins_kept, returns_kept}
+use Rattle.safl_unit.proofs.equations.Keeping.{pins_kept, returns_kept}
 use Rattle.safl_term.proofs.HeldByChecked.{nodes_within}
-use Rattle.safl_unit.proofs.Joins.{nodes_next}
-use Rattle.safl_unit.proofs.Outcoming.{none_outcomes, next_outcomes, all_outcomes}
+use Rattle.safl_unit.proofs.equations.Joins.{nodes_next}
+use Rattle.safl_unit.proofs.equations.Outcoming.{none_outcomes, next_outcomes, all_outcomes}
 use Rattle.safl_unit.proofs.bodies.lower_bodies.Goals as goal
 
 pub loop-f-init : goal.loop-f-init

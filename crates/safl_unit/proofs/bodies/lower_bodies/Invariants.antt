@@ -1,7 +1,7 @@
 use Rattle.std.proofs.Common.{◌+◌, ◌*◌}
 use Rattle.safl_term.specs.Sizes.{body_nodes}
 use Rattle.safl_lower.specs.Sources.{Builds}
-use Rattle.safl_unit.proofs.Outcoming.{OutcomesUpTo}
+use Rattle.safl_unit.proofs.equations.Outcoming.{OutcomesUpTo}
 use Rattle.safl_unit.proofs.bodies.lower_bodies.Given as goal
 
 abbrev pub invariant-loop-f : goal.invariant-loop-f

@@ -1,6 +1,6 @@
 use Rattle.std.proofs.Common.{suc, ◌+◌, ◌≤◌, length, slice_get, ap, ◌∙◌, arith}
-use Rattle.safl_unit.proofs.Lowered.{first_site_most}
-use Rattle.safl_unit.proofs.Slices.{part_length, part_get}
+use Rattle.safl_unit.proofs.equations.Lowered.{first_site_most}
+use Rattle.safl_unit.proofs.equations.Slices.{part_length, part_get}
 use Rattle.safl_unit.proofs.bodies.own_ports.Goals as goal
 
 pub slice_bounds-from_slice-end : goal.slice_bounds-from_slice-end

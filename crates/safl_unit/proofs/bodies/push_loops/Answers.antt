@@ -5,7 +5,7 @@ use Rattle.safl_lower.specs.declared.loads.Load.{Load}
 use Rattle.safl_lower.specs.Rows.{load_joins, row_at, total}
 use Rattle.safl_lower.specs.Loads.{loads_cost}
 use Rattle.safl_unit.specs.Outcomes.{PushesLoads, maybe_load}
-use Rattle.safl_unit.proofs.Joins.{cost_end, none_pushed, more_pushed}
+use Rattle.safl_unit.proofs.equations.Joins.{cost_end, none_pushed, more_pushed}
 use Rattle.safl_unit.proofs.bodies.push_loops.Goals as goal
 
 pub loop-load-init : goal.loop-load-init

@@ -4,10 +4,10 @@ use Rattle.safl_net.specs.Netlist.{Netlist}
 use Rattle.safl_net.specs.Growth.{Grows}
 use Rattle.safl_lower.proofs.Building.{builds_on}
 use Rattle.safl_unit.specs.Stages.{HasGoes}
-use Rattle.safl_unit.proofs.Keeping.{pins_kept, bank_kept, returns_kept, outcomes_kept, goes_kept, next_kept}
-use Rattle.safl_unit.proofs.Counting.{declared_few, room_for}
-use Rattle.safl_unit.proofs.Scheming.{finished_scheme, finished_plan, finished_count}
-use Rattle.safl_unit.proofs.Arranging.{finished_whole, finished_order}
+use Rattle.safl_unit.proofs.equations.Keeping.{pins_kept, bank_kept, returns_kept, outcomes_kept, goes_kept, next_kept}
+use Rattle.safl_unit.proofs.layout.Counting.{declared_few, room_for}
+use Rattle.safl_unit.proofs.assembly.Scheming.{finished_scheme, finished_plan, finished_count}
+use Rattle.safl_unit.proofs.assembly.Arranging.{finished_whole, finished_order}
 use Rattle.safl_unit.proofs.circuit.compile.Goals as goal
 
 pub returns-requires-clause-room : goal.returns-requires-clause-room

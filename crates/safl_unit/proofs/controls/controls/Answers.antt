@@ -1,7 +1,7 @@
 use Rattle.std.proofs.Common.{List, Option, map, ap, ◌∙◌}
 use Rattle.safl_lower.specs.declared.loads.Load.{Load}
 use Rattle.safl_lower.specs.Tables.{load_bit, bit_or}
-use Rattle.safl_unit.proofs.Controlling.{has_controls}
+use Rattle.safl_unit.proofs.equations.Controlling.{has_controls}
 use Rattle.safl_unit.proofs.controls.controls.Goals as goal
 
 pub returns-clause-done : goal.returns-clause-done

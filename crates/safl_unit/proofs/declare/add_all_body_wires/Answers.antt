@@ -1,9 +1,9 @@
 use Rattle.std.proofs.Common.{arith}
 use Rattle.safl_circuit.specs.Layout.{lines, function_wires}
 use Rattle.safl_unit.specs.Finished.{open_wire}
-use Rattle.safl_unit.proofs.Declaring.{lines_count}
-use Rattle.safl_unit.proofs.Pinning.{lines_start, lines_next, body_wires_count}
-use Rattle.safl_unit.proofs.Adding.{lines_at}
+use Rattle.safl_unit.proofs.layout.Declaring.{lines_count}
+use Rattle.safl_unit.proofs.layout.Pinning.{lines_start, lines_next, body_wires_count}
+use Rattle.safl_unit.proofs.layout.Adding.{lines_at}
 use Rattle.safl_unit.proofs.declare.add_all_body_wires.Goals as goal
 
 pub loop-f-init : goal.loop-f-init

@@ -2,9 +2,9 @@ use Rattle.std.proofs.Common.{suc, ◌∙◌, refl, ap, arith}
 use Rattle.safl_term.specs.Checked.{CheckedProgram}
 use Rattle.safl_circuit.specs.Layout.{lines, site_wires}
 use Rattle.safl_unit.specs.Finished.{open_wire}
-use Rattle.safl_unit.proofs.Declaring.{lines_count}
-use Rattle.safl_unit.proofs.Pinning.{lines_from_one, lines_next, few_calls}
-use Rattle.safl_unit.proofs.Adding.{lines_at}
+use Rattle.safl_unit.proofs.layout.Declaring.{lines_count}
+use Rattle.safl_unit.proofs.layout.Pinning.{lines_from_one, lines_next, few_calls}
+use Rattle.safl_unit.proofs.layout.Adding.{lines_at}
 use Rattle.safl_unit.proofs.declare.add_all_call_wires.Goals as goal
 
 pub loop-k-init : goal.loop-k-init

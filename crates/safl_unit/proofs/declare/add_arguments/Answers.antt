@@ -5,8 +5,8 @@ use Rattle.safl_word.proofs.Lists.{get_map}
 use Rattle.safl_circuit.specs.Names.{of_param}
 use Rattle.safl_unit.specs.Finished.{open_register}
 use Rattle.safl_unit.specs.Declaring.{with_signals, argument_lines}
-use Rattle.safl_unit.proofs.Declaring.{name_text, param_text, param_step, param_count, numbered_next, param_lines_long, named_get}
-use Rattle.safl_unit.proofs.Adding.{named_so, line_at}
+use Rattle.safl_unit.proofs.layout.Declaring.{name_text, param_text, param_step, param_count, numbered_next, param_lines_long, named_get}
+use Rattle.safl_unit.proofs.layout.Adding.{named_so, line_at}
 use Rattle.safl_unit.proofs.declare.add_arguments.Goals as goal
 
 pub argument_name-requires-clause-function : goal.argument_name-requires-clause-function

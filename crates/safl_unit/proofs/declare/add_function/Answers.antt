@@ -1,8 +1,8 @@
 use Rattle.safl_unit.specs.Finished.{open_register}
 use Rattle.safl_unit.specs.Declaring.{unit_head, at_line, argument_lines}
 use Rattle.std.proofs.Common.{◌++◌}
-use Rattle.safl_unit.proofs.Adding.{lines_first, lines_rest}
-use Rattle.safl_unit.proofs.Pinning.{pinned}
+use Rattle.safl_unit.proofs.layout.Adding.{lines_first, lines_rest}
+use Rattle.safl_unit.proofs.layout.Pinning.{pinned}
 use Rattle.safl_unit.proofs.declare.add_function.Goals as goal
 
 pub returns-clause-pinned : goal.returns-clause-pinned

@@ -2,9 +2,9 @@ use Rattle.std.proofs.Common.{arith}
 use Rattle.safl_circuit.specs.Layout.{lines}
 use Rattle.safl_unit.specs.Finished.{open_register}
 use Rattle.safl_unit.specs.Declaring.{function_lines}
-use Rattle.safl_unit.proofs.Declaring.{lines_count}
-use Rattle.safl_unit.proofs.Pinning.{lines_start, lines_next, none_pinned_at, more_pinned_at, functions_count}
-use Rattle.safl_unit.proofs.Adding.{lines_at}
+use Rattle.safl_unit.proofs.layout.Declaring.{lines_count}
+use Rattle.safl_unit.proofs.layout.Pinning.{lines_start, lines_next, none_pinned_at, more_pinned_at, functions_count}
+use Rattle.safl_unit.proofs.layout.Adding.{lines_at}
 use Rattle.safl_unit.proofs.declare.add_functions.Goals as goal
 
 pub loop-f-init : goal.loop-f-init

@@ -4,8 +4,8 @@ use Rattle.std.proofs.lemmas.List.{take_all}
 use Rattle.safl_word.proofs.Lists.{get_map}
 use Rattle.safl_unit.specs.Finished.{input_line}
 use Rattle.safl_unit.specs.Declaring.{with_signals, port_lines}
-use Rattle.safl_unit.proofs.Declaring.{param_text, param_step, param_count, numbered_next, param_lines_long, named_get}
-use Rattle.safl_unit.proofs.Adding.{named_so, line_at}
+use Rattle.safl_unit.proofs.layout.Declaring.{param_text, param_step, param_count, numbered_next, param_lines_long, named_get}
+use Rattle.safl_unit.proofs.layout.Adding.{named_so, line_at}
 use Rattle.safl_unit.proofs.declare.add_ports.Goals as goal
 
 pub headed-requires : goal.headed-requires

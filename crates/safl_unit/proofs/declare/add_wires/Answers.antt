@@ -3,8 +3,8 @@ use Rattle.safl_term.specs.Checked.{CheckedProgram}
 use Rattle.safl_circuit.specs.Layout.{lines, function_wires, site_wires}
 use Rattle.safl_unit.specs.Finished.{open_wire}
 use Rattle.safl_unit.specs.Declaring.{with_signals}
-use Rattle.safl_unit.proofs.Declaring.{lines_count}
-use Rattle.safl_unit.proofs.Pinning.{body_wires_count, few_calls}
+use Rattle.safl_unit.proofs.layout.Declaring.{lines_count}
+use Rattle.safl_unit.proofs.layout.Pinning.{body_wires_count, few_calls}
 use Rattle.safl_unit.proofs.declare.add_wires.Goals as goal
 
 pub add_all_call_wires-requires-clause-room : goal.add_all_call_wires-requires-clause-room

@@ -6,10 +6,10 @@ use Rattle.safl_unit.specs.declared.pins.UnitPins.{UnitPins}
 use Rattle.safl_unit.specs.Ties.{numbered}
 use Rattle.safl_unit.specs.Finished.{input_line, open_register}
 use Rattle.safl_unit.specs.Declaring.{with_signals, MayAdd, function_lines, port_lines, FunctionsPinned, SitesPinned}
-use Rattle.safl_unit.proofs.Declared.{inputs_few, registers_few, sites_few, net_declared, pins_are}
-use Rattle.safl_unit.proofs.Fitting.{pins_fit}
-use Rattle.safl_unit.proofs.Tidying.{declared_tidy, declared_settled}
-use Rattle.safl_unit.proofs.Adding.{may_now, may_declare, may_ports, may_functions, may_sites, may_wires}
+use Rattle.safl_unit.proofs.layout.Declared.{inputs_few, registers_few, sites_few, net_declared, pins_are}
+use Rattle.safl_unit.proofs.layout.Fitting.{pins_fit}
+use Rattle.safl_unit.proofs.layout.Tidying.{declared_tidy, declared_settled}
+use Rattle.safl_unit.proofs.layout.Adding.{may_now, may_declare, may_ports, may_functions, may_sites, may_wires}
 use Rattle.safl_unit.proofs.declare.declare.Goals as goal
 
 pub add_functions-requires-clause-room : goal.add_functions-requires-clause-room

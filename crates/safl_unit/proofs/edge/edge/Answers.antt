@@ -5,8 +5,8 @@ use Rattle.safl_lower.specs.Tables.{SomeFit, BitsFit}
 use Rattle.safl_lower.proofs.Building.{builds_on, builds_within}
 use Rattle.safl_lower.proofs.KnownLoads.{bits_kept}
 use Rattle.safl_unit.specs.Steps.{UnitsNext, SitesNext}
-use Rattle.safl_unit.proofs.Keeping.{pins_kept, returns_kept, outcomes_kept, goes_kept}
-use Rattle.safl_unit.proofs.Whole.{events_kept, events_fit, units_next_kept, members_next_kept, has_next}
+use Rattle.safl_unit.proofs.equations.Keeping.{pins_kept, returns_kept, outcomes_kept, goes_kept}
+use Rattle.safl_unit.proofs.equations.Whole.{events_kept, events_fit, units_next_kept, members_next_kept, has_next}
 use Rattle.safl_unit.proofs.edge.edge.Goals as goal
 
 pub edge_events-requires-clause-outcomes : goal.edge_events-requires-clause-outcomes

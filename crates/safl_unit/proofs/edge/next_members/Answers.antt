@@ -11,8 +11,8 @@ use Rattle.safl_lower.proofs.KnownLoads.{maybe_load_kept, maybe_bit_kept}
 use Rattle.safl_lower.proofs.Cells.{sources_length}
 use Rattle.safl_unit.specs.Cycles.{MemberFits}
 use Rattle.safl_unit.specs.Steps.{MemberStep, MembersNext}
-use Rattle.safl_unit.proofs.Keeping.{member_kept}
-use Rattle.safl_unit.proofs.Stepping.{no_members, more_members}
+use Rattle.safl_unit.proofs.equations.Keeping.{member_kept}
+use Rattle.safl_unit.proofs.equations.Stepping.{no_members, more_members}
 use Rattle.safl_unit.proofs.edge.next_members.Goals.{After-index-now}
 use Rattle.safl_unit.proofs.edge.next_members.Goals as goal
 

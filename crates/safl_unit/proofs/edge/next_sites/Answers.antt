@@ -8,9 +8,9 @@ use Rattle.safl_lower.proofs.Building.{builds_same, builds_on, builds_within, so
 use Rattle.safl_lower.proofs.KnownLoads.{maybe_bit_kept}
 use Rattle.safl_unit.specs.Cycles.{SiteFits}
 use Rattle.safl_unit.specs.Steps.{SiteStep, SitesNext}
-use Rattle.safl_unit.proofs.Keeping.{site_kept}
-use Rattle.safl_unit.proofs.Tables.{pin_is, read_again}
-use Rattle.safl_unit.proofs.Stepping.{no_sites, more_sites}
+use Rattle.safl_unit.proofs.equations.Keeping.{site_kept}
+use Rattle.safl_unit.proofs.equations.Tables.{pin_is, read_again}
+use Rattle.safl_unit.proofs.equations.Stepping.{no_sites, more_sites}
 use Rattle.safl_unit.proofs.edge.next_sites.Goals.{After-index-ret}
 use Rattle.safl_unit.proofs.edge.next_sites.Goals as goal
 

@@ -7,8 +7,8 @@ use Rattle.safl_lower.proofs.Building.{builds_same, builds_on, builds_within}
 use Rattle.safl_lower.proofs.KnownLoads.{maybe_load_kept, maybe_bit_kept}
 use Rattle.safl_unit.specs.declared.pins.UnitPins.{UnitPins}
 use Rattle.safl_unit.specs.Steps.{UnitsNext}
-use Rattle.safl_unit.proofs.Keeping.{unit_kept}
-use Rattle.safl_unit.proofs.Stepping.{no_units, more_units}
+use Rattle.safl_unit.proofs.equations.Keeping.{unit_kept}
+use Rattle.safl_unit.proofs.equations.Stepping.{no_units, more_units}
 use Rattle.safl_unit.proofs.edge.next_units.Goals as goal
 
 pub loop-f-init : goal.loop-f-init

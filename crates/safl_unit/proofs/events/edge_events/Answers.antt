@@ -5,9 +5,9 @@ use Rattle.safl_lower.specs.Tables.{SomeFit, BitsFit, taken_from, on_from}
 use Rattle.safl_lower.proofs.Building.{builds_on, builds_within}
 use Rattle.safl_lower.proofs.KnownLoads.{some_kept}
 use Rattle.safl_unit.specs.Edges.{one_below, rival, ShowsBits, ShowsBelow}
-use Rattle.safl_unit.proofs.Keeping.{outcomes_kept, goes_fit_kept, goes_kept, ends_kept, all_loads_kept, tests_kept}
+use Rattle.safl_unit.proofs.equations.Keeping.{outcomes_kept, goes_fit_kept, goes_kept, ends_kept, all_loads_kept, tests_kept}
 use Rattle.safl_circuit.specs.Equations.{starts, clears, starts_it}
-use Rattle.safl_unit.proofs.Crossing.{outcomes_fit_kept, has_ends, has_loads, has_starts, has_clears, has_entries, has_rivals}
+use Rattle.safl_unit.proofs.equations.Crossing.{outcomes_fit_kept, has_ends, has_loads, has_starts, has_clears, has_entries, has_rivals}
 use Rattle.safl_unit.proofs.events.edge_events.Goals as goal
 
 pub unit_ends-requires-clause-outcomes : goal.unit_ends-requires-clause-outcomes

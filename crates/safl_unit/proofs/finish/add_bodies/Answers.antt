@@ -1,8 +1,8 @@
 use Rattle.std.proofs.Common.{length, refl, sym, arith}
 use Rattle.std.proofs.lemmas.Option.{slice_get_read}
 use Rattle.safl_unit.specs.Ties.{body_ties}
-use Rattle.safl_unit.proofs.Tables.{pin_is}
-use Rattle.safl_unit.proofs.Listing.{none_listed, more_listed, body_listed}
+use Rattle.safl_unit.proofs.equations.Tables.{pin_is}
+use Rattle.safl_unit.proofs.assembly.Listing.{none_listed, more_listed, body_listed}
 use Rattle.safl_unit.proofs.finish.add_bodies.Goals as goal
 
 pub loop-f-init : goal.loop-f-init

@@ -1,6 +1,6 @@
 use Rattle.std.proofs.Common.{◌++◌, length, refl, ap, ◌∙◌, arith}
 use Rattle.std.proofs.lemmas.Option.{slice_get_read}
-use Rattle.safl_unit.proofs.Listing.{function_listed}
+use Rattle.safl_unit.proofs.assembly.Listing.{function_listed}
 use Rattle.safl_unit.proofs.finish.add_function.Goals as goal
 
 pub returns : goal.returns

@@ -1,5 +1,5 @@
 use Rattle.safl_unit.specs.Ties.{function_ties}
-use Rattle.safl_unit.proofs.Listing.{none_listed, more_listed}
+use Rattle.safl_unit.proofs.assembly.Listing.{none_listed, more_listed}
 use Rattle.safl_unit.proofs.finish.add_functions.Goals as goal
 
 pub loop-f-init : goal.loop-f-init

@@ -3,8 +3,8 @@ use Rattle.std.proofs.lemmas.Option.{slice_get_read}
 use Rattle.safl_term.specs.Checked.{CheckedProgram}
 use Rattle.safl_net.specs.Netlist.{Netlist}
 use Rattle.safl_net.proofs.Growth.{within}
-use Rattle.safl_unit.proofs.Finishing.{finishes}
-use Rattle.safl_unit.proofs.Outputs.{done_free, result_free}
+use Rattle.safl_unit.proofs.assembly.Finishing.{finishes}
+use Rattle.safl_unit.proofs.titles.Outputs.{done_free, result_free}
 use Rattle.safl_unit.proofs.finish.finish.Goals.{After-index-unit}
 use Rattle.safl_unit.proofs.finish.finish.Goals as goal
 

@@ -1,8 +1,8 @@
 use Rattle.std.proofs.Common.{None, refl}
 use Rattle.safl_net.specs.Netlist.{Wire}
 use Rattle.safl_unit.specs.Setting.{copy_kind}
-use Rattle.safl_unit.proofs.Tables.{pin_get}
-use Rattle.safl_unit.proofs.Setting.{takes_next, kinds_next}
+use Rattle.safl_unit.proofs.equations.Tables.{pin_get}
+use Rattle.safl_unit.proofs.assembly.Setting.{takes_next, kinds_next}
 use Rattle.safl_unit.proofs.finish.set_copies.Goals as goal
 
 pub set_copy-requires : goal.set_copy-requires

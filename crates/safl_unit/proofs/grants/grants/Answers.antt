@@ -10,10 +10,10 @@ use Rattle.safl_lower.specs.Rows.{AreBits, row_at}
 use Rattle.safl_lower.proofs.Building.{builds_on, builds_within, builds_same}
 use Rattle.safl_lower.proofs.JoinedRows.{row_kept}
 use Rattle.safl_unit.specs.Arbiters.{want_at, site_row}
-use Rattle.safl_unit.proofs.Keeping.{pins_kept, outcomes_kept, cycle_before}
-use Rattle.safl_unit.proofs.Indexing.{site_at, main_at, place_within}
-use Rattle.safl_unit.proofs.Granting.{Granted, none_granted, granted_on, more_granted, all_granted}
-use Rattle.safl_unit.proofs.Arbiting.{row_there, row_long, rows_tally, tally_cong, row_fits, want_fits, want_on, go_is, unit_first}
+use Rattle.safl_unit.proofs.equations.Keeping.{pins_kept, outcomes_kept, cycle_before}
+use Rattle.safl_unit.proofs.equations.Indexing.{site_at, main_at, place_within}
+use Rattle.safl_unit.proofs.equations.Granting.{Granted, none_granted, granted_on, more_granted, all_granted}
+use Rattle.safl_unit.proofs.equations.Arbiting.{row_there, row_long, rows_tally, tally_cong, row_fits, want_fits, want_on, go_is, unit_first}
 use Rattle.safl_unit.proofs.grants.grants.Goals as goal
 
 pub main_grant-requires-clause-run : goal.main_grant-requires-clause-run

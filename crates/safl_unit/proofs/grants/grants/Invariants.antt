@@ -1,5 +1,5 @@
 use Rattle.safl_lower.specs.Sources.{Builds}
-use Rattle.safl_unit.proofs.Granting.{Granted}
+use Rattle.safl_unit.proofs.equations.Granting.{Granted}
 use Rattle.safl_unit.proofs.grants.grants.Given as goal
 
 abbrev pub invariant-loop-done : goal.invariant-loop-done

@@ -1,6 +1,6 @@
 use Rattle.std.proofs.Common.{◌+◌, sym, ◌∙◌, arith}
 use Rattle.std.proofs.lemmas.Bool.{le-ltb}
-use Rattle.safl_unit.proofs.Groups.{peers_below, next_peer, no_peers}
+use Rattle.safl_unit.proofs.equations.Groups.{peers_below, next_peer, no_peers}
 use Rattle.safl_unit.proofs.names.has_peers.Goals as goal
 
 pub returns-then-unit-f : goal.returns-then-unit-f

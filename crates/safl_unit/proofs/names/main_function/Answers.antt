@@ -1,5 +1,5 @@
 use Rattle.std.proofs.Common.{arith}
-use Rattle.safl_unit.proofs.Pinning.{main_is}
+use Rattle.safl_unit.proofs.layout.Pinning.{main_is}
 use Rattle.safl_unit.proofs.names.main_function.Goals as goal
 
 pub returns-clause-number : goal.returns-clause-number

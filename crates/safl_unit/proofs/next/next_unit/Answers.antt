@@ -4,7 +4,7 @@ use Rattle.safl_net.specs.Bits.{on}
 use Rattle.safl_lower.specs.Tables.{on_in}
 use Rattle.safl_lower.proofs.Building.{builds_on, source_kept}
 use Rattle.safl_lower.proofs.KnownLoads.{maybe_load_kept, maybe_bit_kept}
-use Rattle.safl_unit.proofs.Chains.{load_bit_fits, load_bit_shows}
+use Rattle.safl_unit.proofs.equations.Chains.{load_bit_fits, load_bit_shows}
 use Rattle.safl_unit.proofs.next.next_unit.Goals as goal
 
 pub or_some-requires-clause-second : goal.or_some-requires-clause-second

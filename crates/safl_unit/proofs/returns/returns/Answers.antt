@@ -2,9 +2,9 @@ use Rattle.std.proofs.Common.{◌≡◌, ℕ, suc, Bool, ◌+◌, ◌*◌, refl,
 use Rattle.safl_term.specs.Checked.{CheckedProgram}
 use Rattle.safl_lower.proofs.Building.{builds_same, builds_on, builds_within}
 use Rattle.safl_unit.specs.Returning.{SiteShown}
-use Rattle.safl_unit.proofs.Keeping.{pins_kept}
-use Rattle.safl_unit.proofs.Indexing.{unit_at, site_at}
-use Rattle.safl_unit.proofs.Sites.{SoFar, none_so_far, more_so_far, all_returns}
+use Rattle.safl_unit.proofs.equations.Keeping.{pins_kept}
+use Rattle.safl_unit.proofs.equations.Indexing.{unit_at, site_at}
+use Rattle.safl_unit.proofs.equations.Sites.{SoFar, none_so_far, more_so_far, all_returns}
 use Rattle.safl_unit.proofs.returns.returns.Goals as goal
 
 pub loop-done-init : goal.loop-done-init

@@ -1,6 +1,6 @@
 use Rattle.std.proofs.Common.{◌*◌}
 use Rattle.safl_lower.specs.Sources.{Builds}
-use Rattle.safl_unit.proofs.Sites.{SoFar}
+use Rattle.safl_unit.proofs.equations.Sites.{SoFar}
 use Rattle.safl_unit.proofs.returns.returns.Given as goal
 
 abbrev pub invariant-loop-done : goal.invariant-loop-done

@@ -12,7 +12,7 @@ use Rattle.safl_lower.proofs.Building.{builds_same, builds_on, builds_within}
 use Rattle.safl_lower.proofs.KnownLoads.{maybe_bit_kept}
 use Rattle.safl_lower.proofs.Joints.{several_in_kept}
 use Rattle.safl_unit.specs.Edges.{one_below, entry_row, others_on, rival, ShowsBelow}
-use Rattle.safl_unit.proofs.Others.{entries_fit, rivals_are, below_none_yet, below_one_more}
+use Rattle.safl_unit.proofs.equations.Others.{entries_fit, rivals_are, below_none_yet, below_one_more}
 use Rattle.safl_unit.proofs.rivals.function_rivals.Goals as goal
 
 pub join_several-requires-clause-fits : goal.join_several-requires-clause-fits

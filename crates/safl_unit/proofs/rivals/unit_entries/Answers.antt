@@ -5,7 +5,7 @@ use Rattle.safl_lower.specs.Tables.{sig_in}
 use Rattle.safl_lower.specs.Rows.{maybe_one, bit_joins}
 use Rattle.safl_lower.proofs.JoinedRows.{total_bare}
 use Rattle.safl_unit.specs.Edges.{entry_row}
-use Rattle.safl_unit.proofs.Others.{entry_zero, entry_next}
+use Rattle.safl_unit.proofs.equations.Others.{entry_zero, entry_next}
 use Rattle.safl_unit.proofs.rivals.unit_entries.Goals as goal
 
 pub loop-f-init : goal.loop-f-init

@@ -1,0 +1,11 @@
+pub mod Members
+pub mod Reading
+pub mod Viewing
+pub mod Agreeing
+pub mod Wiring
+pub mod Setting
+pub mod Listing
+pub mod Finishing
+pub mod Layers
+pub mod Scheming
+pub mod Arranging

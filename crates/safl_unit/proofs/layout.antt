@@ -1,0 +1,9 @@
+pub mod Declaring
+pub mod Pinning
+pub mod Ordering
+pub mod Declared
+pub mod Lining
+pub mod Fitting
+pub mod Tidying
+pub mod Counting
+pub mod Adding

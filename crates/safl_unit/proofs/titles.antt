@@ -1,0 +1,4 @@
+pub mod Legal
+pub mod Apart
+pub mod Titles
+pub mod Outputs
