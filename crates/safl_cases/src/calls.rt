@@ -2,7 +2,7 @@
 
 use crate::texts::{Wanted, prints};
 use safl_io::{MemSink, Shelf, Sink};
-use safl_probe::{Probe, StartsProbe, StubProbe, ToggleProbe, VcdProbe};
+use safl_probe::{Probe, StartsProbe, StubProbe, ToggleProbe, VcdProbe, none_begun};
 use safl_tool::run;
 use safl_word::NoMemory;
 use std::alloc::Global;
@@ -64,6 +64,10 @@ pub fn run_words<S: Shelf, O: Sink, E: Sink>(
             }
             _ => {}
         }
+    }
+    // All probes are new, so this never happens.
+    if !none_begun(&probes) {
+        return Err(NoMemory);
     }
     Ok(run(alloc, &owned, shelf, out, err, &mut probes) as u8)
 }

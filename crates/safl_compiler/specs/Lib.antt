@@ -1,3 +1,4 @@
 pub mod Sources
 pub mod Circuits
+pub mod Optimised
 pub mod Laws

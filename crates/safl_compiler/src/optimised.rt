@@ -5,8 +5,8 @@ ghost use Rattle.safl_net.specs.Arranged.{IsInOrder};
 ghost use Rattle.safl_net.specs.Netlist.{AllSet};
 ghost use Rattle.safl_net.specs.Valuations.{IsAcyclic};
 ghost use Rattle.safl_net.specs.Whole.{IsWhole};
-ghost use Rattle.safl_opt.specs.Lean.{Lean};
 ghost use Rattle.safl_compiler.specs.Circuits.{IsCircuitOf};
+ghost use Rattle.safl_compiler.specs.Optimised.{IsSmallerOf};
 
 use crate::circuit::circuit_of;
 use safl_circuit::laws::{circuit_law, plan_carries_over, scheme_carries_over};
@@ -24,7 +24,7 @@ use std::alloc::Global;
 /// out of memory.
 pub fn optimised_circuit_of(alloc: Global, checked: Checked) -> Result<Net, NoMemory>
     ensures circuit { IfOk result (λ n. IsCircuitOf checked.program checked.names n) }
-    ensures lean { IfOk result Lean }
+    ensures smaller { IfOk result (IsSmallerOf checked.program checked.names) }
     ensures whole { IfOk result IsWhole }
     ensures in_order { IfOk result IsInOrder }
 {

@@ -1,5 +1,7 @@
 //! Traces of a net, by each kind of probe.
 
+ghost use Rattle.safl_probe.specs.Probing.{IsWaiting};
+
 use safl_net::{Net, NetErr};
 use safl_probe::{Probe, ProbeErr, StartsProbe, StubProbe, ToggleProbe, VcdProbe};
 use safl_word::{Raw, Word};
@@ -19,7 +21,9 @@ fn trace<P: Probe>(
     net: &Net,
     frames: &[Vec<Word>],
     out: &mut Vec<u8>,
-) -> Result<(), TraceErr> {
+) -> Result<(), TraceErr>
+    requires { IsWaiting (P.state probe.old) }
+{
     let count = net.signals() as usize;
     probe.begin(net, out).map_err(TraceErr::Probe)?;
     'frames: for i in 0..frames.len() {

@@ -1,17 +1,16 @@
 -- What the asked probes give at the beginning and at the end of a run.
-use Rattle.std.proofs.Common.{◌≡◌, ℕ, List, Option, IsSome, refl, sym, ap, subst, ◌∙◌}
+use Rattle.std.proofs.Common.{◌≡◌, ℕ, List, Option, ap, subst}
 use Rattle.safl_io.specs.Told.{TellsOn}
 use Rattle.safl_io.specs.Shelf.{Files}
 use Rattle.safl_net.specs.Netlist.{Netlist}
 use Rattle.safl_net.specs.Valuations.{Valuation}
-use Rattle.safl_probe.specs.Watching.{ProbeShape}
-use Rattle.safl_probe.specs.Probing.{ProbeState, Tells, begun, begin_text, finish_text}
+use Rattle.safl_probe.specs.Probing.{ProbeState, IsWatching, Tells, begun, begin_text, finish_text}
 use Rattle.safl_probe.specs.Calls.{after_frames}
 use Rattle.safl_probe.specs.Asked.{Asked, IsAsked, AreApart, probe_at}
 use Rattle.safl_probe.specs.Growth.{AllGrow, Made, Longer, LongerPart, OldOrPart, Grown, GrownPart}
 use Rattle.safl_probe.specs.declared.moment.Moment.TheVariants.{Beginning, End}
 use Rattle.safl_probe.proofs.Growing.{told_weaker}
-use Rattle.safl_probe.proofs.Frames.{shape_stays}
+use Rattle.safl_probe.proofs.Frames.{watching_more}
 
 -- ---- at the beginning
 
@@ -50,6 +49,5 @@ module _ (names : Asked) (ps : List ProbeState) where
       (λ a b g. record { files = λ i name k. g.files i name k; others = λ name no. g.others name no }) x y (h apart)
 
 -- a probe that was begun, and was shown frames, may be told of the end
-pub can_finish : (n : Netlist) (frames : List Valuation) (p q r : ProbeState) → Tells (begun n p) q → Tells (after_frames frames q) r → IsSome r.shape
-can_finish n frames p q r t u =
-    subst (λ (o : Option ProbeShape). IsSome o) (sym (ap (λ (y : ProbeState). y.shape) u ∙ shape_stays frames q ∙ ap (λ (y : ProbeState). y.shape) t)) refl
+pub can_finish : (n : Netlist) (frames : List Valuation) (p q r : ProbeState) → Tells (begun n p) q → Tells (after_frames frames q) r → IsWatching r
+can_finish n frames p q r t u = watching_more frames q r (ap (λ (y : ProbeState). y.stage) t) u

@@ -10,7 +10,7 @@ use Rattle.safl_net.specs.Netlist.{Netlist}
 use Rattle.safl_net.specs.Valuations.{Valuation}
 use Rattle.safl_probe.specs.Watching.{ProbeShape}
 use Rattle.safl_probe.specs.Texts.{Text, trace}
-use Rattle.safl_probe.specs.Probing.{ProbeState, FrameFits, Tells, begun, after_frame, begin_text, cycle_text, finish_text}
+use Rattle.safl_probe.specs.Probing.{ProbeState, IsWatching, Tells, begun, after_frame, begin_text, cycle_text, finish_text}
 use Rattle.safl_probe.specs.Calls.{cycle_texts, after_frames}
 use Rattle.safl_probe.proofs.Traced.{calls_make_traces}
 use Rattle.safl_probe.specs.Asked.{Asked, IsAsked}
@@ -53,17 +53,24 @@ text_more fs v s q t =
 pub told_more : (fs : List Valuation) (v : Valuation) (s q x : ProbeState) → Tells (after_frames fs s) q → Tells (after_frame v q) x → Tells (after_frames (fs ++ v ∷ []) s) x
 told_more fs v s q x t u = tells_after v (after_frames fs s) q x t u ∙ sym (after_more fs (v ∷ []) s)
 
-pub shape_stays : (fs : List Valuation) (s : ProbeState) → (after_frames fs s).shape ≡ s.shape
+shape_stays : (fs : List Valuation) (s : ProbeState) → (after_frames fs s).shape ≡ s.shape
 shape_stays [] s = refl
 shape_stays (f ∷ fs) s = shape_stays fs (after_frame f s)
+
+pub watching_stays : (fs : List Valuation) (s : ProbeState) → IsWatching s → IsWatching (after_frames fs s)
+watching_stays [] s w = w
+watching_stays (f ∷ fs) s w = watching_stays fs (after_frame f s) w
+
+pub watching_more : (fs : List Valuation) (s q : ProbeState) → IsWatching s → Tells (after_frames fs s) q → IsWatching q
+watching_more fs s q w t = ap (λ (y : ProbeState). y.stage) t ∙ watching_stays fs s w
 
 turn_rises : (fs : List Valuation) (s : ProbeState) → (after_frames fs s).turn ≡ s.turn + length fs
 turn_rises [] s = sym (add-zero s.turn)
 turn_rises (f ∷ fs) s = let e = turn_rises fs (after_frame f s) in omega (arith, e)
 
 -- a probe that was ready, and was shown as many frames, may be shown one more
-pub fits_more : (n : Netlist) (fs : List Valuation) (v : Valuation) (s q : ProbeState) → IsReady n s → Tells (after_frames fs s) q → length v ≡ length n.signals → FrameFits q.shape v
-fits_more n fs v s q r t long = subst (λ (o : Option ProbeShape). FrameFits o v) (sym (ap (λ (y : ProbeState). y.shape) t ∙ shape_stays fs s)) (r.fits v long)
+pub fits_more : (n : Netlist) (fs : List Valuation) (v : Valuation) (s q : ProbeState) → IsReady n s → Tells (after_frames fs s) q → length v ≡ length n.signals → length v ≡ q.shape.signals
+fits_more n fs v s q r t long = long ∙ sym r.signals ∙ sym (ap (λ (y : ProbeState). y.shape.signals) t ∙ ap (λ (h : ProbeShape). h.signals) (shape_stays fs s))
 
 pub turn_more : (n : Netlist) (fs : List Valuation) (s q : ProbeState) (c : ℕ) → IsReady n s → Tells (after_frames fs s) q → length fs ≡ c → c ≡ q.turn
 turn_more n fs s q c r t long =
@@ -73,7 +80,8 @@ turn_more n fs s q c r t long =
 
 pub ready : (n : Netlist) (p q : ProbeState) → Tells (begun n p) q → IsReady n q
 ready n p q t = record {
-  fits = λ frame long. subst (λ (o : Option ProbeShape). FrameFits o frame) (sym (ap (λ (y : ProbeState). y.shape) t)) long;
+  watching = ap (λ (y : ProbeState). y.stage) t;
+  signals = ap (λ (y : ProbeState). y.shape.signals) t;
   turn = ap (λ (y : ProbeState). y.turn) t;
 }
 

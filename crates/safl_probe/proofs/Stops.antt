@@ -22,6 +22,7 @@ stopped_later (why.Probe kind) names ps qs rs a b c s r h = record {
   asked = h.asked;
   of_kind = sym (s.kinds h.place) ∙ h.of_kind;
   rose = rose_later (probe_at ps h.place).faults (probe_at qs h.place).faults (probe_at rs h.place).faults (s.faults h.place) h.rose;
+  failed = h.failed;
 }
 stopped_later (why.Write place) names ps qs rs a b c s r h = record { name = h.name; asked = h.asked; rose = rose_later a.write_faults b.write_faults c.write_faults r.writes h.rose }
 stopped_later why.NoMemory names ps qs rs a b c s r h = tt

@@ -9,7 +9,7 @@ use Rattle.safl_io.specs.Shelf.{ShelfState, SameReads}
 use Rattle.safl_io.proofs.Telling.{rose_later}
 use Rattle.safl_net.specs.Netlist.{Netlist}
 use Rattle.safl_net.specs.Valuations.{Valuation}
-use Rattle.safl_probe.specs.Probing.{ProbeState, Tells, fresh}
+use Rattle.safl_probe.specs.Probing.{ProbeState, HasFailed, Tells, fresh}
 use Rattle.safl_probe.specs.Asked.{Asked, IsAsked, SameUnasked, asked, probe_at}
 use Rattle.safl_probe.specs.Moments.{CanTell, text_at, state_at}
 use Rattle.safl_probe.specs.Stopping.{Blames, Stopped, SameProbes, KeepsProbes}
@@ -133,6 +133,7 @@ module _ (P : Type 0) (st : P → ProbeState) where
           of_kind = ap (λ (s : ProbeState). s.kind) was ∙ h.0;
           rose = subst (λ (s : ProbeState). Rose s.faults (probe_at (states (set qs i x)) i).faults) (sym was)
               (subst (λ (s : ProbeState). Rose (st q).faults s.faults) (sym (at_written qs i x lt)) h.1);
+          failed = subst (λ (s : ProbeState). HasFailed s) (sym (at_written qs i x lt)) h.2;
         }
     stopped_at qs i name q x (why.Write k) a b c lt e asked t r h = record {
       name = name;

@@ -4,11 +4,12 @@ use Rattle.safl_net.specs.Valuations.{Valuation}
 use Rattle.safl_probe.specs.Watching.{ProbeShape, kind_of, shape_of, seen}
 use Rattle.safl_probe.specs.Texts.{frame_text, frames_text, closing}
 use Rattle.safl_probe.specs.Probing.{ProbeState, begun, begin_text, finish_text}
+use Rattle.safl_probe.specs.declared.stage.Stage.TheVariants as stage
 use Rattle.safl_probe.specs.Calls.{cycle_texts, after_frames, CallsMakeTraces}
 
 module _ (kind : ℕ) (shape : ProbeShape) (faults : ℕ) where
   abbrev at : Option (List ℕ) → ℕ → ProbeState
-  at last turn = record { kind = kind; shape = Some shape; last = last; turn = turn; faults = faults }
+  at last turn = record { kind = kind; stage = stage.Watching; shape = shape; last = last; turn = turn; faults = faults }
 
   pub texts_are : (fs : List Valuation) (last : Option (List ℕ)) (t : ℕ) → cycle_texts fs (at last t) ≡ frames_text (kind_of kind) shape.watched t last fs
   texts_are [] last t = refl

@@ -2,7 +2,7 @@
 use Rattle.std.specs.Prelude.{ℕ, ◌≡◌, List, map, Option, Some, None, option_map, get_or, string_bytes}
 use Rattle.std.specs.declared.string.String.{String}
 use Rattle.std.specs.declared.alloc.Global.{Global}
-use Rattle.safl_probe.specs.Probing.{ProbeState, fresh}
+use Rattle.safl_probe.specs.Probing.{ProbeState, IsWaiting, fresh}
 
 -- for each probe the name of the file that it is asked to write, if it is asked
 abbrev pub Asked : Type 0
@@ -34,6 +34,10 @@ AreApart names = (i j : ℕ) (name : List ℕ) → IsAsked names i name → IsAs
 -- what the probe at this place tells
 abbrev pub probe_at : List ProbeState → ℕ → ProbeState
 probe_at ps i = get_or ps i (fresh 0)
+
+-- no probe has begun
+abbrev pub NoneBegun : {P : Type 0} → (P → ProbeState) → List P → Type 0
+NoneBegun tell ps = (i : ℕ) → IsWaiting (probe_at (map tell ps) i)
 
 -- probes that are not asked are as they were
 abbrev pub SameUnasked : {P : Type 0} → Asked → List P → List P → Type 0

@@ -1,5 +1,5 @@
 -- What a probe notes of the signals that it watches.
-use Rattle.std.specs.Prelude.{ℕ, suc, List, [], ◌∷◌, map, Option, Some, None, Bool, cond, ◌==◌, string_bytes, slice_get, slice_index}
+use Rattle.std.specs.Prelude.{ℕ, suc, List, [], ◌∷◌, map, Option, Some, None, cond, ◌==◌, string_bytes, slice_get, slice_index}
 use Rattle.safl_net.specs.Valuations.{Valuation}
 use Rattle.safl_probe.specs.Watching.{Watched, seen}
 use Rattle.safl_probe.specs.Texts.{Text, frame_text, changed, changes}
@@ -7,6 +7,7 @@ use Rattle.safl_probe.specs.Probing.{ProbeState}
 use Rattle.safl_probe.specs.declared.entry.Entry.{Entry}
 use Rattle.safl_probe.specs.declared.entry.Spot.{Spot}
 use Rattle.safl_probe.specs.declared.kind.TraceKind.{TraceKind}
+use Rattle.safl_probe.specs.declared.stage.Stage.{Stage}
 
 -- the watched signals of entries
 abbrev pub watched_in : Entry → Watched
@@ -61,12 +62,13 @@ changed_in i s frame = changed i s.width s.number (slice_index frame s.signal)
 abbrev pub changes_in : List Spot → Valuation → Text
 changes_in ss frame = changes 0 (nameless ss) (numbers ss) (seen (nameless ss) frame)
 
--- what a probe tells that has these entries and spots, on a net of this many signals, after this many frames
-abbrev pub told_of : ℕ → Bool → ℕ → List Entry → List Spot → ℕ → ProbeState
-told_of kind begun signals es ss turn =
+-- what a probe tells that has come so far and has these entries and spots, on a net of this many signals, after this many frames
+abbrev pub told_of : ℕ → Stage → ℕ → List Entry → List Spot → ℕ → ProbeState
+told_of kind stage signals es ss turn =
     record {
       kind = kind;
-      shape = cond begun (Some (record { signals = signals; watched = watched_from 0 es ss })) None;
+      stage = stage;
+      shape = record { signals = signals; watched = watched_from 0 es ss };
       last = last_of turn ss;
       turn = turn;
       faults = 0;

@@ -11,7 +11,7 @@ use Rattle.safl_run.specs.Calls.{Answers, cycles_of}
 use Rattle.safl_run.specs.Steps.{IsCalled}
 use Rattle.safl_run.specs.declared.harness.Harness.{Harness}
 use Rattle.safl_sim.specs.declared.done.Done.{Done}
-use Rattle.safl_probe.specs.Probing.{ProbeState, FrameFits, Tells}
+use Rattle.safl_probe.specs.Probing.{ProbeState, Tells, IsWatching}
 use Rattle.safl_probe.specs.Calls.{cycle_texts, after_frames}
 use Rattle.safl_probe.specs.Asked.{Asked, FileNames, IsAsked, AreApart, asked, probe_at}
 use Rattle.safl_probe.specs.Growth.{AllGrow, Longer, LongerPart, AllThere, NowThere}
@@ -21,7 +21,8 @@ use Rattle.safl_probe.specs.declared.moment.Moment.TheVariants.{End}
 
 -- the probe has begun on the net, and has seen no frame
 pub record IsReady (n : Netlist) (s : ProbeState) : Type 0 where
-  pub fits : (frame : Valuation) → length frame ≡ length n.signals → FrameFits s.shape frame
+  pub watching : IsWatching s
+  pub signals : s.shape.signals ≡ length n.signals
   pub turn : s.turn ≡ 0
 
 -- each probe has its place among the names, and each asked one is ready

@@ -11,7 +11,7 @@ use Rattle.safl_net.specs.Whole.{IsWhole}
 use Rattle.safl_sim.specs.Outcomes.{IsCallRun}
 use Rattle.safl_sim.specs.Places.{resets}
 use Rattle.safl_sim.specs.Simulation.{Simulation}
-use Rattle.safl_probe.specs.Probing.{ProbeState, begun}
+use Rattle.safl_probe.specs.Probing.{ProbeState, IsWaiting, begun, ended}
 use Rattle.safl_probe.specs.Calls.{after_frames}
 use Rattle.safl_probe.specs.Texts.{Text, trace}
 use Rattle.safl_probe.specs.Asked.{Asked, FileNames, IsAsked, AreApart, asked, probe_at}
@@ -22,6 +22,11 @@ pub record BeginsRun (sim : Simulation) (args : List Word) : Type 0 where
   pub whole : IsWhole sim.net
   pub fresh : sim.state ≡ resets sim.net
   pub arguments : AreArguments sim.net args
+
+-- each probe has its place among the names, and no asked one has begun
+pub record AllWait {P : Type 0} (names : FileNames) (tell : P → ProbeState) (ps : List P) : Type 0 where
+  pub files : length names ≡ length ps
+  pub waiting : (i : ℕ) (name : List ℕ) → IsAsked (asked names) i name → IsWaiting (probe_at (map tell ps) i)
 
 -- a run of this many cycles from reset, in which all inputs are 0 after cycle 0. A net without loops has exactly one
 pub record IsRunOf (n : Netlist) (args : List Word) (count : ℕ) (vs : List Valuation) : Type 0 where
@@ -37,9 +42,9 @@ until_done n (v ∷ vs) = if read_output n v (codes "done") == 1 then v ∷ [] e
 abbrev pub trace_at : Netlist → List Valuation → List ProbeState → ℕ → Text
 trace_at n vs ps i = trace (probe_at ps i).kind n (until_done n vs)
 
--- each asked probe was begun on the net and shown these cycles, and no others
+-- each asked probe was begun on the net, was shown these cycles and no others, and was ended once
 abbrev pub AreShown : Netlist → List Valuation → Asked → List ProbeState → List ProbeState → Type 0
-AreShown n frames names ps qs = (i : ℕ) (name : List ℕ) → IsAsked names i name → probe_at qs i ≡ after_frames frames (begun n (probe_at ps i))
+AreShown n frames names ps qs = (i : ℕ) (name : List ℕ) → IsAsked names i name → probe_at qs i ≡ ended (after_frames frames (begun n (probe_at ps i)))
 
 -- of a run of so many cycles each asked probe was shown those up to the first with `done` at 1
 abbrev pub RunIsShown : {P : Type 0} → Netlist → List Word → ℕ → FileNames → (P → ProbeState) → List P → List P → Type 0

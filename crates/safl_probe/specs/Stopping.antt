@@ -2,7 +2,7 @@
 use Rattle.std.specs.Prelude.{ℕ, ◌≡◌, ◌≤◌, List, map, length}
 use Rattle.safl_io.specs.Counts.{Rose}
 use Rattle.safl_io.specs.Shelf.{ShelfState, SameReads, UsesNoStray}
-use Rattle.safl_probe.specs.Probing.{ProbeState}
+use Rattle.safl_probe.specs.Probing.{ProbeState, HasFailed}
 use Rattle.safl_io.specs.declared.fault.OutErr.{OutErr}
 use Rattle.safl_io.specs.declared.fault.OutErr.TheVariants as out
 use Rattle.safl_probe.specs.declared.probe.ProbeErr.{ProbeErr}
@@ -22,17 +22,18 @@ unprobed kind probe.NoMemory = why.NoMemory
 
 -- this one probe failed, or the file at its place was not written
 abbrev pub Blames : DriveErr → ℕ → ProbeState → ProbeState → ShelfState → ShelfState → Type 0
-Blames (why.Probe kind) place p q old new = (p.kind ≡ kind) × Rose p.faults q.faults
+Blames (why.Probe kind) place p q old new = (p.kind ≡ kind) × Rose p.faults q.faults × HasFailed q
 Blames (why.Write i) place p q old new = (i ≡ place) × Rose old.write_faults new.write_faults
 Blames why.NoMemory place p q old new = Unit {0}
 
--- an asked probe of this kind failed
+-- an asked probe of this kind failed, and was used no more
 pub record ProbeFailed (kind : ℕ) (names : Asked) (old new : List ProbeState) : Type 0 where
   pub place : ℕ
   pub name : List ℕ
   pub asked : IsAsked names place name
   pub of_kind : (probe_at old place).kind ≡ kind
   pub rose : Rose (probe_at old place).faults (probe_at new place).faults
+  pub failed : HasFailed (probe_at new place)
 
 -- the file of the asked probe at this place was not written
 pub record WriteFailed (place : ℕ) (names : Asked) (old new : ShelfState) : Type 0 where

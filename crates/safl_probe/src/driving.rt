@@ -1,10 +1,10 @@
 //! A run until `done` is 1, which probes may watch.
 
-ghost use Rattle.std.specs.Prelude.{◌≡◌, length, IfOk, IfErr, OnOk, OnErr};
+ghost use Rattle.std.specs.Prelude.{◌≡◌, IfOk, IfErr, OnOk, OnErr};
 ghost use Rattle.safl_run.specs.Calls.{IsOutcome};
 ghost use Rattle.safl_probe.specs.Asked.{asked};
 ghost use Rattle.safl_probe.specs.Growth.{OldOrPart};
-ghost use Rattle.safl_probe.specs.Runs.{BeginsRun, RunIsTraced, TracesGrow};
+ghost use Rattle.safl_probe.specs.Runs.{AllWait, BeginsRun, RunIsTraced, TracesGrow};
 ghost use Rattle.safl_probe.specs.Stopping.{KeepsProbes, KeepsShelf, StopsRun};
 
 use crate::drive_err::DriveErr;
@@ -36,13 +36,13 @@ pub fn drive<S: Shelf>(
     shelf: &mut S,
 ) -> Result<Option<Done>, DriveErr>
     requires begins { BeginsRun sim.old args.now }
-    requires files { length files.now ≡ length probes.old.items }
+    requires probes { AllWait files.now (λ p. state p) probes.old.items }
     ensures outcome { IfOk result (IsOutcome sim.old.net args.now limit) }
     ensures net { sim.new.net ≡ sim.old.net }
 
     // Of the run of `limit` cycles, each asked file holds the trace of the cycles up to the first with `done` at 1, and each
-    // asked probe was begun and was shown them. After an error the file is as it was, or holds a prefix of that. All other
-    // files are as they were.
+    // asked probe was begun, was shown them, and was ended. After an error the file is as it was, or holds a prefix of that.
+    // All other files are as they were.
     ensures traced { OnOk result (RunIsTraced sim.old.net args.now limit files.now (λ p. state p) probes.old probes.new
         (S.told shelf.old) (S.told shelf.new)) }
     ensures part { OnErr result (TracesGrow OldOrPart sim.old.net args.now limit files.now (λ p. state p) probes.old.items

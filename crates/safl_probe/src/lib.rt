@@ -1,6 +1,7 @@
 //! Traces: probes that watch a simulation and write text, and runs whose traces go to files of a shelf.
 #![tactic(auto)]
 
+mod begun;
 pub mod drive_err;
 pub mod driving;
 mod entry;
@@ -12,6 +13,7 @@ mod moment;
 pub mod probe;
 mod room;
 mod show;
+mod stage;
 mod starts_and_toggles;
 pub mod starts_probe;
 pub mod stub_probe;
@@ -24,10 +26,12 @@ pub mod vcd_probe;
 mod vcd_text;
 mod watch;
 
+pub use crate::begun::none_begun;
 pub use crate::drive_err::DriveErr;
 pub use crate::driving::drive;
 pub use crate::kind::{TraceKind, kind_of};
 pub use crate::probe::{Probe, ProbeErr};
+pub use crate::stage::Stage;
 pub use crate::starts_probe::StartsProbe;
 pub use crate::stub_probe::StubProbe;
 pub use crate::toggle_probe::ToggleProbe;

@@ -1,11 +1,13 @@
 //! The trait of probes.
-ghost use Rattle.std.specs.Prelude.{◌≡◌, OnOk, OnErr, IsErrOf, IsNone, IsSome};
+ghost use Rattle.std.specs.Prelude.{◌≡◌, OnOk, OnErr, IsErrOf};
 ghost use Rattle.safl_io.specs.Counts.{Rose};
 ghost use Rattle.safl_io.specs.Sink.{Sends, SendsPart};
 ghost use Rattle.safl_probe.specs.Watching.{shown_frame};
-ghost use Rattle.safl_probe.specs.Probing.{ProbeState, Tells, SameProbe, TakesFrame, begun, after_frame, begin_text, cycle_text, finish_text};
+ghost use Rattle.safl_probe.specs.Probing.{ProbeState, Tells, SameProbe, TakesFrame, IsWaiting, IsWatching, HasFailed, begun, after_frame, ended};
+ghost use Rattle.safl_probe.specs.Probing.{begin_text, cycle_text, finish_text};
 ghost use Rattle.safl_probe.specs.declared.probe.ProbeErr.TheVariants as why;
 
+use crate::stage::Stage;
 use safl_net::Net;
 use safl_word::{NoMemory, Word};
 use thiserror::Error;
@@ -33,23 +35,28 @@ impl From<NoMemory> for ProbeErr {
 ///
 /// A frame is the words of all signals in a cycle, in the order of their numbers. A call fails only if the probe counts
 /// a fault, and a call that gives its text counts none. The count never falls, and may stand still at 2^64 - 1. After an
-/// error a prefix of the text was appended, and the probe watches nothing: it takes no frame and no end until it is begun
-/// anew.
+/// error a prefix of the text was appended, and the probe is used no more: it begins once, takes frames, and ends once,
+/// and no call may follow an error or the end.
 pub trait Probe: Drop {
-    /// What the probe tells: its kind, what it watches, what it saw last, how many frames it was given, and its count
-    /// of faults.
+    /// What the probe tells: its kind, how far it has come, what it watches, what it saw last, how many frames it was
+    /// given, and its count of faults.
     ghost state: { Self → ProbeState };
 
     /// The kind: 1 is VCD, 2 is starts, 3 is toggles. Any other kind writes nothing.
     fn kind(&self) -> u8
         ensures { result ≡ (state self.now).kind };
 
+    /// How far the probe has come.
+    fn stage(&self) -> Stage
+        ensures { result ≡ (state self.now).stage };
+
     /// Begins on a net, and appends the text of the beginning.
     fn begin(&mut self, net: &Net, out: &mut Vec<u8>) -> Result<(), ProbeErr>
+        requires waiting { IsWaiting (state self.old) }
         ensures added { OnOk result (Sends (begin_text net.now (state self.old)) out.old.items out.new.items) }
         ensures part { OnErr result (SendsPart (begin_text net.now (state self.old)) out.old.items out.new.items) }
         ensures tells { OnOk result (Tells (begun net.now (state self.old)) (state self.new)) }
-        ensures ended { OnErr result (IsNone (state self.new).shape) }
+        ensures stopped { OnErr result (HasFailed (state self.new)) }
         ensures same_probe { SameProbe (state self.old) (state self.new) }
         ensures failed { IsErrOf result ProbeErr.Failed → Rose (state self.old).faults (state self.new).faults };
 
@@ -59,17 +66,17 @@ pub trait Probe: Drop {
         ensures added { OnOk result (Sends (cycle_text (shown_frame frame.now) (state self.old)) out.old.items out.new.items) }
         ensures part { OnErr result (SendsPart (cycle_text (shown_frame frame.now) (state self.old)) out.old.items out.new.items) }
         ensures tells { OnOk result (Tells (after_frame (shown_frame frame.now) (state self.old)) (state self.new)) }
-        ensures ended { OnErr result (IsNone (state self.new).shape) }
+        ensures stopped { OnErr result (HasFailed (state self.new)) }
         ensures same_probe { SameProbe (state self.old) (state self.new) }
         ensures failed { IsErrOf result ProbeErr.Failed → Rose (state self.old).faults (state self.new).faults };
 
     /// Appends the text of the end.
     fn finish(&mut self, out: &mut Vec<u8>) -> Result<(), ProbeErr>
-        requires begun { IsSome (state self.old).shape }
+        requires watching { IsWatching (state self.old) }
         ensures added { OnOk result (Sends (finish_text (state self.old)) out.old.items out.new.items) }
         ensures part { OnErr result (SendsPart (finish_text (state self.old)) out.old.items out.new.items) }
-        ensures tells { OnOk result (Tells (state self.old) (state self.new)) }
-        ensures ended { OnErr result (IsNone (state self.new).shape) }
+        ensures tells { OnOk result (Tells (ended (state self.old)) (state self.new)) }
+        ensures stopped { OnErr result (HasFailed (state self.new)) }
         ensures same_probe { SameProbe (state self.old) (state self.new) }
         ensures failed { IsErrOf result ProbeErr.Failed → Rose (state self.old).faults (state self.new).faults };
 }

@@ -1,6 +1,7 @@
 //! A probe of which one call fails, for tests.
 
 use crate::probe::{Probe, ProbeErr};
+use crate::stage::Stage;
 use crate::tracer::Tracer;
 use safl_net::Net;
 use safl_word::Word;
@@ -68,11 +69,11 @@ impl StubProbe {
 }
 
 impl Probe for StubProbe {
-    ghost use Rattle.std.specs.Prelude.{◌↔◌, OnOk, OnErr, IsErrOf, IsNone};
+    ghost use Rattle.std.specs.Prelude.{◌↔◌, OnOk, OnErr, IsErrOf};
     ghost use Rattle.safl_io.specs.Counts.{Rose};
     ghost use Rattle.safl_io.specs.Sink.{Sends, SendsPart};
     ghost use Rattle.safl_probe.specs.Watching.{shown_frame};
-    ghost use Rattle.safl_probe.specs.Probing.{Tells, SameProbe, TakesFrame, begun, after_frame, begin_text, cycle_text, finish_text};
+    ghost use Rattle.safl_probe.specs.Probing.{Tells, SameProbe, TakesFrame, IsWaiting, IsWatching, HasFailed, begun, after_frame, ended, begin_text, cycle_text, finish_text};
     ghost use Rattle.safl_probe.specs.Stubs.{FailsNext, CountsCall};
 
     ghost state = { λ stub. stub.probe };
@@ -81,11 +82,16 @@ impl Probe for StubProbe {
         self.tracer.kind()
     }
 
+    fn stage(&self) -> Stage {
+        self.tracer.stage()
+    }
+
     fn begin(&mut self, net: &Net, out: &mut Vec<u8>) -> Result<(), ProbeErr>
+        requires waiting { IsWaiting self.old.probe }
         ensures added { OnOk result (Sends (begin_text net.now self.old.probe) out.old.items out.new.items) }
         ensures part { OnErr result (SendsPart (begin_text net.now self.old.probe) out.old.items out.new.items) }
         ensures tells { OnOk result (Tells (begun net.now self.old.probe) self.new.probe) }
-        ensures ended { OnErr result (IsNone self.new.probe.shape) }
+        ensures stopped { OnErr result (HasFailed self.new.probe) }
         ensures same_probe { SameProbe self.old.probe self.new.probe }
         ensures failed { IsErrOf result ProbeErr.Failed → Rose self.old.probe.faults self.new.probe.faults }
         ensures fails { IsErrOf result ProbeErr.Failed ↔ FailsNext self.old }
@@ -104,7 +110,7 @@ impl Probe for StubProbe {
         ensures added { OnOk result (Sends (cycle_text (shown_frame frame.now) self.old.probe) out.old.items out.new.items) }
         ensures part { OnErr result (SendsPart (cycle_text (shown_frame frame.now) self.old.probe) out.old.items out.new.items) }
         ensures tells { OnOk result (Tells (after_frame (shown_frame frame.now) self.old.probe) self.new.probe) }
-        ensures ended { OnErr result (IsNone self.new.probe.shape) }
+        ensures stopped { OnErr result (HasFailed self.new.probe) }
         ensures same_probe { SameProbe self.old.probe self.new.probe }
         ensures failed { IsErrOf result ProbeErr.Failed → Rose self.old.probe.faults self.new.probe.faults }
         ensures fails { IsErrOf result ProbeErr.Failed ↔ FailsNext self.old }
@@ -119,10 +125,11 @@ impl Probe for StubProbe {
     }
 
     fn finish(&mut self, out: &mut Vec<u8>) -> Result<(), ProbeErr>
+        requires watching { IsWatching self.old.probe }
         ensures added { OnOk result (Sends (finish_text self.old.probe) out.old.items out.new.items) }
         ensures part { OnErr result (SendsPart (finish_text self.old.probe) out.old.items out.new.items) }
-        ensures tells { OnOk result (Tells (self.old.probe) self.new.probe) }
-        ensures ended { OnErr result (IsNone self.new.probe.shape) }
+        ensures tells { OnOk result (Tells (ended self.old.probe) self.new.probe) }
+        ensures stopped { OnErr result (HasFailed self.new.probe) }
         ensures same_probe { SameProbe self.old.probe self.new.probe }
         ensures failed { IsErrOf result ProbeErr.Failed → Rose self.old.probe.faults self.new.probe.faults }
         ensures fails { IsErrOf result ProbeErr.Failed ↔ FailsNext self.old }

@@ -1,9 +1,9 @@
 //! Telling the asked probes of a moment of the run.
 
-ghost use Rattle.std.specs.Prelude.{◌≡◌, IfErr, OnOk, OnErr, IsErrOf};
+ghost use Rattle.std.specs.Prelude.{◌≡◌, [], IfErr, OnOk, OnErr, IsErrOf};
 ghost use Rattle.safl_io.specs.Counts.{Rose};
 ghost use Rattle.safl_io.specs.Shelf.{SameReads, UsesNoStray};
-ghost use Rattle.safl_probe.specs.Probing.{SameProbe, Tells};
+ghost use Rattle.safl_probe.specs.Probing.{SameProbe, Tells, HasFailed, TakesFrame, after_frame, cycle_text};
 ghost use Rattle.safl_probe.specs.Asked.{asked};
 ghost use Rattle.safl_probe.specs.Moments.{CanTell, text_at, state_at};
 ghost use Rattle.safl_probe.specs.Growth.{Grown, GrownPart, IsThere, AllThere};
@@ -30,14 +30,29 @@ pub(crate) fn tell(
     ensures tells { OnOk result (Tells (state_at moment net.now (frame_in room.old) (state probe.old)) (state probe.new)) }
     ensures same_probe { SameProbe (state probe.old) (state probe.new) }
     ensures failed { IsErrOf result ProbeErr.Failed → Rose (state probe.old).faults (state probe.new).faults }
+    ensures stopped { OnErr result (HasFailed (state probe.new)) }
     ensures same_frame { room.new.frame ≡ room.old.frame }
 {
     room.text.clear();
     match moment {
         Moment::Beginning => probe.begin(net, &mut room.text),
-        Moment::Frame(t) => probe.cycle(t, &room.frame, &mut room.text),
+        Moment::Frame(t) => tell_frame(probe, t, room),
         Moment::End => probe.finish(&mut room.text),
     }
+}
+
+/// Tells a probe of the frame in the room. Its text is put into the empty room.
+fn tell_frame(probe: &mut Box<dyn Probe>, t: u64, room: &mut Room) -> Result<(), ProbeErr>
+    requires takes { TakesFrame t (frame_in room.old) (state probe.old) }
+    requires empty { room.old.text.items ≡ [] }
+    ensures text { OnOk result (room.new.text.items ≡ cycle_text (frame_in room.old) (state probe.old)) }
+    ensures tells { OnOk result (Tells (after_frame (frame_in room.old) (state probe.old)) (state probe.new)) }
+    ensures same_probe { SameProbe (state probe.old) (state probe.new) }
+    ensures failed { IsErrOf result ProbeErr.Failed → Rose (state probe.old).faults (state probe.new).faults }
+    ensures stopped { OnErr result (HasFailed (state probe.new)) }
+    ensures same_frame { room.new.frame ≡ room.old.frame }
+{
+    probe.cycle(t, &room.frame, &mut room.text)
 }
 
 /// Tells a probe of a moment, and appends its text to the file `name`. At the beginning it creates the file.

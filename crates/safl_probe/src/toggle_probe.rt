@@ -1,6 +1,7 @@
 //! The probe of toggles.
 
 use crate::probe::{Probe, ProbeErr};
+use crate::stage::Stage;
 use crate::tracer::Tracer;
 use safl_net::Net;
 use safl_word::Word;
@@ -39,6 +40,10 @@ impl Probe for ToggleProbe {
 
     fn kind(&self) -> u8 {
         self.tracer.kind()
+    }
+
+    fn stage(&self) -> Stage {
+        self.tracer.stage()
     }
 
     fn begin(&mut self, net: &Net, out: &mut Vec<u8>) -> Result<(), ProbeErr> {

@@ -3,6 +3,7 @@
 use crate::entry::{Entry, Spot};
 use crate::kind::kind_of;
 use crate::look::{entries_of, spots_of};
+use crate::stage::Stage;
 use crate::texts::{send_closing, send_frame, send_opening};
 use safl_net::Net;
 use safl_word::{NoMemory, Word};
@@ -13,7 +14,7 @@ use std::marker::Model;
 pub(crate) struct Tracer {
     alloc: Global,
     kind: u8,
-    begun: bool,
+    stage: Stage,
     signals: u32,
     entries: Vec<Entry>,
     spots: Vec<Spot>,
@@ -28,13 +29,13 @@ impl Model for Tracer {
 
     ghost use Rattle.safl_probe.specs.Entries.{told_of};
 
-    ghost view = { λ t. told_of t.kind t.begun t.signals t.entries.items t.spots.items t.turn };
+    ghost view = { λ t. told_of t.kind t.stage t.signals t.entries.items t.spots.items t.turn };
 }
 
 impl Tracer {
-    ghost use Rattle.std.specs.Prelude.{◌≡◌, ◌++◌, OnOk, OnErr, IsNone};
+    ghost use Rattle.std.specs.Prelude.{◌≡◌, ◌++◌, OnOk, OnErr};
     ghost use Rattle.safl_probe.specs.Watching.{shown_frame};
-    ghost use Rattle.safl_probe.specs.Probing.{fresh, begun, after_frame, TakesFrame, begin_text, cycle_text, finish_text};
+    ghost use Rattle.safl_probe.specs.Probing.{fresh, begun, after_frame, ended, TakesFrame, HasFailed, begin_text, cycle_text, finish_text};
 
     pub(crate) fn new(alloc: Global, kind: u8) -> Self
         ensures { result ≡ fresh kind }
@@ -42,7 +43,7 @@ impl Tracer {
         Tracer {
             alloc,
             kind,
-            begun: false,
+            stage: Stage::Waiting,
             signals: 0,
             entries: Vec::new(alloc),
             spots: Vec::new(alloc),
@@ -57,19 +58,25 @@ impl Tracer {
         self.kind
     }
 
+    pub(crate) fn stage(&self) -> Stage
+        ensures { result ≡ self.now.stage }
+    {
+        self.stage
+    }
+
     pub(crate) fn begin(&mut self, net: &Net, out: &mut Vec<u8>) -> Result<(), NoMemory>
         ensures added { OnOk result (out.new.items ≡ out.old.items ++ begin_text net.now self.old) }
         ensures same { OnErr result (out.new.items ≡ out.old.items) }
         ensures told { OnOk result (self.new ≡ begun net.now self.old) }
-        ensures ended { OnErr result (IsNone self.new.shape) }
+        ensures stopped { OnErr result (HasFailed self.new) }
         ensures kind { self.new.kind ≡ self.old.kind }
     {
-        self.begun = false;
+        self.stage = Stage::Failed;
         let kind = kind_of(self.kind);
         let entries = entries_of(self.alloc, kind, net)?;
         let spots = spots_of(self.alloc, &entries)?;
         send_opening(&mut self.text, kind, &entries, out)?;
-        self.begun = true;
+        self.stage = Stage::Watching;
         self.signals = net.signals();
         self.entries = entries;
         self.spots = spots;
@@ -87,11 +94,10 @@ impl Tracer {
         ensures added { OnOk result (out.new.items ≡ out.old.items ++ cycle_text (shown_frame frame.now) self.old) }
         ensures same { OnErr result (out.new.items ≡ out.old.items) }
         ensures told { OnOk result (self.new ≡ after_frame (shown_frame frame.now) self.old) }
-        ensures ended { OnErr result (IsNone self.new.shape) }
+        ensures stopped { OnErr result (HasFailed self.new) }
         ensures kind { self.new.kind ≡ self.old.kind }
     {
-        let begun = self.begun;
-        self.begun = false;
+        self.stage = Stage::Failed;
         send_frame(
             &mut self.text,
             kind_of(self.kind),
@@ -101,7 +107,7 @@ impl Tracer {
             frame,
             out,
         )?;
-        self.begun = begun;
+        self.stage = Stage::Watching;
         self.turn = t + 1;
         Ok(())
     }
@@ -109,22 +115,21 @@ impl Tracer {
     pub(crate) fn finish(&mut self, out: &mut Vec<u8>) -> Result<(), NoMemory>
         ensures added { OnOk result (out.new.items ≡ out.old.items ++ finish_text self.old) }
         ensures same { OnErr result (out.new.items ≡ out.old.items) }
-        ensures told { OnOk result (self.new ≡ self.old) }
-        ensures ended { OnErr result (IsNone self.new.shape) }
+        ensures told { OnOk result (self.new ≡ ended self.old) }
+        ensures stopped { OnErr result (HasFailed self.new) }
         ensures kind { self.new.kind ≡ self.old.kind }
     {
-        let begun = self.begun;
-        self.begun = false;
+        self.stage = Stage::Failed;
         send_closing(&mut self.text, kind_of(self.kind), self.turn, out)?;
-        self.begun = begun;
+        self.stage = Stage::Ended;
         Ok(())
     }
 
-    /// Watches nothing until it is begun.
+    /// Fails.
     pub(crate) fn stop(&mut self)
-        ensures ended { IsNone self.new.shape }
+        ensures stopped { HasFailed self.new }
         ensures kind { self.new.kind ≡ self.old.kind }
     {
-        self.begun = false;
+        self.stage = Stage::Failed;
     }
 }

@@ -24,7 +24,7 @@ pub outcome_given : (head : List ℕ) (limit : ℕ) (answer : Option Done) (come
 outcome_given head limit answer comes text e f = ap (λ (b : Bool). only_prints b text) e ∙ ap (λ (t : List ℕ). only_prints (is_some answer) t) f
 
 module _ (source : List ℕ) (C : Program) (D : Names) (n : Netlist) (reads : WrittenReads) (short : NoShorterText) where
-  pub writes : IsSourceOf source C D → IsCircuitOf C D n → IsNetlist n → IsWhole n → IsInOrder n → (text : List ℕ) → text ≡ written n → WritesCircuit source n (only_writes text)
+  unfoldable pub writes : IsSourceOf source C D → IsCircuitOf C D n → IsNetlist n → IsWhole n → IsInOrder n → (text : List ℕ) → text ≡ written n → WritesCircuit source n (only_writes text)
   writes of circuit made whole in_order text is = record {
     program = C;
     names = D;

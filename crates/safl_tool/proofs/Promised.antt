@@ -1,5 +1,5 @@
 -- What commands come to at status Ok, from how a call ends.
-use Rattle.std.proofs.Common.{◌≡◌, ◌∙◌, ℕ, List, [], ◌∷◌, ◌++◌, length, Bool, true, false, Option, Some, None, bytes_eq, if◌then◌else◌, refl, sym, ap, subst, inl, inr, codes}
+use Rattle.std.proofs.Common.{◌≡◌, ◌≤◌, ◌∙◌, ℕ, List, [], ◌∷◌, ◌++◌, length, Bool, true, false, Option, Some, None, bytes_eq, if◌then◌else◌, refl, sym, ap, subst, inl, inr, codes}
 use Rattle.safl_term.specs.Names.{Names}
 use Rattle.std.specs.Prelude.{IsSomeAnd}
 use Rattle.std.specs.Option.{option_or}
@@ -13,7 +13,6 @@ use Rattle.safl_net.specs.Netlist.{Netlist}
 use Rattle.safl_net.specs.Valuations.{reset_state}
 use Rattle.safl_net.specs.Written.{written}
 use Rattle.safl_sim.specs.declared.done.Done.{Done as Reply}
-use Rattle.safl_opt.specs.Lean.{Lean}
 use Rattle.safl_term.specs.Program.{Program}
 use Rattle.safl_session.specs.Circuits.{Serves}
 use Rattle.safl_session.specs.Transcripts.{reply_lines, calls_line, late_line, are_all}
@@ -34,7 +33,7 @@ use Rattle.safl_task.specs.declared.status.Status.TheVariants as status
 use Rattle.safl_task.proofs.Following.{gave_at_ok}
 use Rattle.safl_tool.specs.BitLevel.{GivesBits, IsConverted}
 use Rattle.safl_tool.specs.Calling.{Converses as Conversed, GivesReplies, told}
-use Rattle.safl_tool.specs.CommandTasks.{WritesCircuit, GivesNumbers, GivesTraces, command_task, task_if, traced, traces_in, usage_task}
+use Rattle.safl_tool.specs.CommandTasks.{WritesCircuit, GivesNumbers, GivesOptimised, GivesTraces, command_task, task_if, traced, traces_in, usage_task}
 use Rattle.safl_tool.specs.Simulating.{Simulates as Simulated}
 use Rattle.safl_probe.specs.Runs.{until_done}
 use Rattle.safl_tool.specs.Tracing.{have_probes, kinds_of, traces_of}
@@ -69,19 +68,19 @@ output_text output text a b leaves =
     let same : bytes_eq output output ≡ true = (bytes_eq-Decides output output).1 refl in
     subst (λ (e : Bool). file_of b output ≡ option_or (if e then Some text else None) (file_of a output)) same (leaves output)
 
--- what is given of a content is a text that is so
-abbrev IsWriting : (List ℕ → List ℕ → Type 0) → (List ℕ → Given → Type 0) → Type 0
-IsWriting R Q = (content : List ℕ) (g : Given) → Q content g → (text : List ℕ) × (g ≡ only_writes text) × R content text
+-- what is given of a content within a limit is a text that is so
+abbrev IsWriting : ℕ → (List ℕ → List ℕ → Type 0) → (List ℕ → Given → Type 0) → Type 0
+IsWriting limit R Q = (content : List ℕ) (g : Given) → length content ≤ limit → Q content g → (text : List ℕ) × (g ≡ only_writes text) × R content text
 
-turned : (R : List ℕ → List ℕ → Type 0) (Q : List ℕ → Given → Type 0) → IsWriting R Q → (i : Input) (output : List ℕ) (a b : Option Files)
+turned : (R : List ℕ → List ℕ → Type 0) (Q : List ℕ → Given → Type 0) → (i : Input) → IsWriting i.limit R Q → (output : List ℕ) (a b : Option Files)
     (contents : List (List ℕ)) (g : Given) → AreContents a (i ∷ []) contents → Only (λ content. Q content g) contents
     → TellsOn (LeavesAll (files_of (output ∷ []) g.texts)) a b → TellsOn (Turns R i.name output) a b
-turned R Q writes i output None b contents g are gives leaves = tt
-turned R Q writes i output (Some a) None contents g are gives leaves = leaves
-turned R Q writes i output (Some a) (Some b) [] g are gives leaves = absurd gives
-turned R Q writes i output (Some a) (Some b) (content ∷ (other ∷ more)) g are gives leaves = absurd gives
-turned R Q writes i output (Some a) (Some b) (content ∷ []) g are gives leaves =
-    let w : (text : List ℕ) × (g ≡ only_writes text) × R content text = writes content g gives in
+turned R Q i writes output None b contents g are gives leaves = tt
+turned R Q i writes output (Some a) None contents g are gives leaves = leaves
+turned R Q i writes output (Some a) (Some b) [] g are gives leaves = absurd gives
+turned R Q i writes output (Some a) (Some b) (content ∷ (other ∷ more)) g are gives leaves = absurd gives
+turned R Q i writes output (Some a) (Some b) (content ∷ []) g are gives leaves =
+    let w : (text : List ℕ) × (g ≡ only_writes text) × R content text = writes content g are.0 gives in
     let all : LeavesAll (files_of (output ∷ []) (w.0 ∷ [])) a b = subst (λ (x : Given). LeavesAll (files_of (output ∷ []) x.texts) a b) w.1 leaves in
     let begins : file_of a i.name ≡ Some content = are.1 in
     subst (λ (o : Option (List ℕ)). IsSomeAnd o (λ x. IsSomeAnd (file_of b output) (R x))) (sym begins)
@@ -134,8 +133,9 @@ of_two R holds i j (one ∷ (two ∷ [])) g before after are gives sends =
 
 -- ---- what the five commands give
 
-is_built : (source : List ℕ) (net : Netlist) (g : Given) → WritesCircuit source net g → IsBuilt source (written net)
-is_built source net g w = record {
+is_built : (source : List ℕ) (net : Netlist) (g : Given) → length source ≤ source_max → WritesCircuit source net g → IsBuilt source (written net)
+is_built source net g short w = record {
+  short = short;
   program = w.program;
   names = w.names;
   net = net;
@@ -144,14 +144,14 @@ is_built source net g w = record {
   correct = w.circuit.circuit.correct;
 }
 
-built : IsWriting IsBuilt (λ source g. (net : Netlist) × WritesCircuit source net g)
-built source g w = (written w.0, w.1.is, is_built source w.0 g w.1)
+built : IsWriting source_max IsBuilt (λ source g. (net : Netlist) × WritesCircuit source net g)
+built source g short w = (written w.0, w.1.is, is_built source w.0 g short w.1)
 
-optimised : IsWriting IsBuilt (λ source g. (net : Netlist) × WritesCircuit source net g × Lean net)
-optimised source g w = (written w.0, w.1.is, is_built source w.0 g w.1)
+optimised : IsWriting source_max IsBuilt GivesOptimised
+optimised source g short w = (written w.0, w.1.is, is_built source w.0 g short w.1)
 
-converted : IsWriting IsConverted GivesBits
-converted text g w = (w.0, w.2, w.1)
+converted : IsWriting verilog_max IsConverted GivesBits
+converted text g short w = (w.0, w.2, w.1)
 
 checked : (source : List ℕ) (g : Given) → GivesNumbers source g → IsChecked source g.printed
 checked source g h = (h.0, h.1, h.2, ap (λ (x : Given). x.printed) h.3)
@@ -246,14 +246,14 @@ module _ {P : Type 0} (words : List (List ℕ)) (old new : World P) (before afte
       → TellsOn (Turns IsBuilt input output) old.outside.shelf.holds new.outside.shelf.holds
   plainly input output e =
       let y : GaveAll (Build input output) old new = said_gave words old new before after s end ok (Build input output) e in
-      turned IsBuilt (λ source g. (net : Netlist) × WritesCircuit source net g) built (file_within input source_max) output
+      turned IsBuilt (λ source g. (net : Netlist) × WritesCircuit source net g) (file_within input source_max) built output
       old.outside.shelf.holds new.outside.shelf.holds y.1.given.0 y.0 y.1.given.1 y.1.given.2 y.1.files
 
   smaller : (input output : List ℕ) → command_of words ≡ Some (Optimise input output)
       → TellsOn (Turns IsBuilt input output) old.outside.shelf.holds new.outside.shelf.holds
   smaller input output e =
       let y : GaveAll (Optimise input output) old new = said_gave words old new before after s end ok (Optimise input output) e in
-      turned IsBuilt (λ source g. (net : Netlist) × WritesCircuit source net g × Lean net) optimised (file_within input source_max) output
+      turned IsBuilt GivesOptimised (file_within input source_max) optimised output
       old.outside.shelf.holds new.outside.shelf.holds y.1.given.0 y.0 y.1.given.1 y.1.given.2 y.1.files
 
   pub builds : (input output : List ℕ) → SayBuild input output words → TellsOn (Turns IsBuilt input output) old.outside.shelf.holds new.outside.shelf.holds
@@ -272,7 +272,7 @@ module _ {P : Type 0} (words : List (List ℕ)) (old new : World P) (before afte
   converts input output say =
       let y : GaveAll (Aig input output) old new =
       is_command (codes "aig") (input ∷ output ∷ []) [] (Aig input output) say.2 (λ line. aig_lines input output line say.0 say.1) in
-      turned IsConverted GivesBits converted (file_within input verilog_max) output
+      turned IsConverted GivesBits (file_within input verilog_max) converted output
       old.outside.shelf.holds new.outside.shelf.holds y.1.given.0 y.0 y.1.given.1 y.1.given.2 y.1.files
 
   pub checks : (input : List ℕ) → SayCheck input words

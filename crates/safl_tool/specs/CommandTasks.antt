@@ -9,7 +9,6 @@ use Rattle.safl_net.specs.Valuations.{Valuation}
 use Rattle.safl_net.specs.Written.{written}
 use Rattle.safl_net.specs.Rules.{IsNetlist}
 use Rattle.safl_net.specs.Arguments.{argument_widths}
-use Rattle.safl_opt.specs.Lean.{Lean}
 use Rattle.safl_aiger.specs.Circuits.{Circuit}
 use Rattle.safl_aiger.specs.Reads.{AigReads}
 use Rattle.safl_aig.specs.BitLevel.{IsLight}
@@ -20,6 +19,7 @@ use Rattle.safl_core.specs.declared.walking.Walked.{Walked}
 use Rattle.safl_term.specs.Names.{Names}
 use Rattle.safl_compiler.specs.Sources.{IsSourceOf, HasFirstFault}
 use Rattle.safl_compiler.specs.Circuits.{IsCircuitOf}
+use Rattle.safl_compiler.specs.Optimised.{IsOptimisedOf}
 use Rattle.safl_tool.specs.Arguments.{HaveFault}
 use Rattle.safl_tool.specs.Sources.{IsAccepted}
 use Rattle.safl_command.specs.Commands.{Command, Check, Build, Sim, Walk, Run, Optimise, Report, Gen, Bench, CopySite, UnfoldSite, Session, Aig, Aigstat}
@@ -124,7 +124,8 @@ command_task (Check input) = reading (file_within input source_max) [] (RefusesS
 command_task (Build input output) =
     reading (file_within input source_max) (output ∷ []) (RefusesSourceOf input) (λ source g. (net : Netlist) × WritesCircuit source net g) IsAccepted
 command_task (Optimise input output) =
-    reading (file_within input source_max) (output ∷ []) (RefusesSourceOf input) (λ source g. (net : Netlist) × WritesCircuit source net g × Lean net) IsAccepted
+    reading (file_within input source_max) (output ∷ []) (RefusesSourceOf input)
+    (λ source g. (net : Netlist) × (w : WritesCircuit source net g) × IsOptimisedOf w.program w.names net) IsAccepted
 command_task (Sim input limit traces args) =
     reading (file_within input source_max) (map (λ (f : List ℕ × ℕ). f.0) (given_files traces)) (RefusesGiven input args)
     (GivesTraces traces args limit) (λ source. Evaluates source args (InCycles limit))
@@ -172,7 +173,7 @@ abbrev pub GivesCircuit : List ℕ → Given → Type 0
 GivesCircuit source g = (net : Netlist) × WritesCircuit source net g
 
 abbrev pub GivesOptimised : List ℕ → Given → Type 0
-GivesOptimised source g = (net : Netlist) × WritesCircuit source net g × Lean net
+GivesOptimised source g = (net : Netlist) × (w : WritesCircuit source net g) × IsOptimisedOf w.program w.names net
 
 abbrev pub outcome : ℕ → Option Done → Given
 outcome = outcome_after []

@@ -1,7 +1,8 @@
 -- The headline: what `build` comes to, said of words, files and the status alone.
-use Rattle.std.specs.Prelude.{◌≡◌, ◌⊎◌, ℕ, List, [], ◌∷◌, map, IsSomeAnd, codes, string_bytes}
+use Rattle.std.specs.Prelude.{◌≡◌, ◌≤◌, ◌⊎◌, ℕ, List, [], ◌∷◌, map, length, IsSomeAnd, codes, string_bytes}
 use Rattle.std.specs.declared.string.String.{String}
 use Rattle.std.specs.declared.alloc.Global.{Global}
+use Rattle.safl_word.specs.Limits.{source_max}
 use Rattle.safl_io.specs.Shelf.{Files, ShelfState, file_of}
 use Rattle.safl_io.specs.Told.{TellsOn}
 use Rattle.safl_net.specs.Netlist.{Netlist}
@@ -20,8 +21,10 @@ SayBuild input output words = IsPlain input × IsPlain output
     × ((words ≡ codes "build" ∷ input ∷ output ∷ []) ⊎ ((words ≡ codes "build" ∷ input ∷ output ∷ codes "--opt" ∷ [])
     ⊎ ((words ≡ codes "build" ∷ input ∷ codes "--opt" ∷ output ∷ []) ⊎ (words ≡ codes "build" ∷ codes "--opt" ∷ input ∷ output ∷ []))))
 
--- the source is that of a program, the text reads as a netlist, and the netlist is correct for the program
+-- the source is that of a program and has at most 1,048,576 bytes, the text reads as a netlist, and the netlist is correct for the
+-- program
 pub record IsBuilt (source text : List ℕ) : Type 0 where
+  pub short : length source ≤ source_max
   pub program : Program
   pub names : Names
   pub net : Netlist

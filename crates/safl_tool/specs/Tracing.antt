@@ -2,7 +2,7 @@
 use Rattle.std.specs.Prelude.{◌≡◌, ℕ, List, [], ◌∷◌, ◌++◌, map, Option, Some, None, is_some, Bool, true, not, ◌||◌}
 use Rattle.safl_net.specs.Netlist.{Netlist}
 use Rattle.safl_net.specs.Valuations.{Valuation}
-use Rattle.safl_probe.specs.Probing.{ProbeState}
+use Rattle.safl_probe.specs.Probing.{ProbeState, IsWaiting}
 use Rattle.safl_probe.specs.Texts.{trace}
 use Rattle.safl_probe.specs.Watching.{kind_of}
 use Rattle.safl_probe.specs.declared.kind.TraceKind.{TraceKind}
@@ -64,7 +64,8 @@ have_probes t (kind ∷ kinds) = have_probes (without t (kind_of kind)) kinds
 abbrev pub kinds_of : List ProbeState → List ℕ
 kinds_of ps = map (λ (p : ProbeState). p.kind) ps
 
--- the probes are asked to write the files of these traces
+-- the probes are asked to write the files of these traces, and none has begun
 pub record AreAskedFor (t : Traces) (asks : Asked) (ps : List ProbeState) : Type 0 where
   pub can : have_probes t (kinds_of ps) ≡ true
   pub is : asks ≡ asked_by t (kinds_of ps)
+  pub waiting : (i : ℕ) → IsWaiting (probe_at ps i)

@@ -42,10 +42,7 @@ pub enum Answer<'a> {
 pub fn printed<'a>(lines: Result<Lines, Refusal<'a>>) -> Result<Answer<'a>, Refusal<'a>>
     ensures { MatchResult lines.entry (λ l. result ≡ Ok (Answer.Printed l)) (λ r. result ≡ Err r) }
 {
-    match lines {
-        Ok(lines) => Ok(Answer::Printed(lines)),
-        Err(refusal) => Err(refusal),
-    }
+    Ok(Answer::Printed(lines?))
 }
 
 /// The answer that writes these bytes to the file `name`, or their refusal.
@@ -55,10 +52,8 @@ pub fn written<'a>(
 ) -> Result<Answer<'a>, Refusal<'a>>
     ensures { MatchResult text.entry (λ t. result ≡ Ok (Answer.File name.entry t)) (λ r. result ≡ Err r) }
 {
-    match text {
-        Ok(text) => Ok(Answer::File { name, text }),
-        Err(refusal) => Err(refusal),
-    }
+    let text = text?;
+    Ok(Answer::File { name, text })
 }
 
 /// The answer of a session, or its refusal.
@@ -68,10 +63,8 @@ pub fn replied<'a>(
 ) -> Result<Answer<'a>, Refusal<'a>>
     ensures { MatchResult opening.entry (λ o. result ≡ Ok (Answer.Replies o limit)) (λ r. result ≡ Err r) }
 {
-    match opening {
-        Ok(opening) => Ok(Answer::Replies { opening, limit }),
-        Err(refusal) => Err(refusal),
-    }
+    let opening = opening?;
+    Ok(Answer::Replies { opening, limit })
 }
 
 /// The answer of a run with traces, or its refusal.
@@ -82,14 +75,12 @@ pub fn traced<'a>(
 ) -> Result<Answer<'a>, Refusal<'a>>
     ensures { MatchResult ready.entry (λ d. result ≡ Ok (Answer.Traced (record { ready = d; limit = limit; traces = traces.entry }))) (λ r. result ≡ Err r) }
 {
-    match ready {
-        Ok(ready) => Ok(Answer::Traced(TracedRun {
-            ready,
-            limit,
-            traces,
-        })),
-        Err(refusal) => Err(refusal),
-    }
+    let ready = ready?;
+    Ok(Answer::Traced(TracedRun {
+        ready,
+        limit,
+        traces,
+    }))
 }
 
 /// Gives an answer. It prints lines, writes a file, prints each reply as it comes, or makes a run whose traces the

@@ -24,9 +24,7 @@ pub fn read_arguments<'a>(
     if args.len() != widths.len() {
         return Err(Refusal::Count(widths.len(), args.len()));
     }
-    let Ok(mut words) = Vec::with_capacity(alloc, args.len()) else {
-        return Err(Refusal::NoMemory);
-    };
+    let mut words = Vec::with_capacity(alloc, args.len())?;
     'arguments: for i in 0..args.len() {
         let word = match read_argument(widths[i], args[i].as_bytes()) {
             Some(word) => word,

@@ -2,6 +2,7 @@
 
 ghost use Rattle.std.specs.Prelude.{◌≡◌, IfOk, map, option_map, string_bytes};
 ghost use Rattle.safl_command.specs.Traces.{files, shown_traces};
+ghost use Rattle.safl_probe.specs.Asked.{NoneBegun};
 ghost use Rattle.safl_probe.specs.Watching.{kind_of};
 ghost use Rattle.safl_tool.specs.Asking.{shown_name, traces_given, is_any_given, AsksFor};
 ghost use Rattle.safl_tool.specs.Tracing.{file_of_kind, without};
@@ -11,12 +12,13 @@ use safl_probe::{Probe, TraceKind, kind_of};
 use std::alloc::{AllocError, Global};
 
 /// For each probe the file that it is asked to write, if any: the first probe of a kind gets the file for traces of
-/// that kind. None if no probe is left for some file.
+/// that kind. None if no probe is left for some file. No probe may have begun.
 pub fn asked_files(
     alloc: Global,
     traces: Option<&Traces>,
     probes: &[Box<dyn Probe>],
 ) -> Result<Option<Vec<Option<String>>>, AllocError>
+    requires { NoneBegun state probes.now }
     ensures { IfOk result (AsksFor (traces_given traces.entry) (map (λ p. state p) probes.now)) }
 {
     let mut vcd = copy_of(alloc, traces, TraceKind::Vcd)?;

@@ -13,7 +13,6 @@ use crate::refusal::Refusal;
 use crate::run_file::ordered_net;
 use safl_aig::{AigErr, BlastErr, aiger_text, counts_lines, read_aig};
 use safl_net::Net;
-use safl_word::NoMemory;
 use std::alloc::{AllocError, Global};
 
 /// The AIGER text of the bit-level circuit of the Verilog file `name`, or why it has none.
@@ -22,10 +21,7 @@ pub fn aig_text<'a>(alloc: Global, name: &'a str, text: &[u8]) -> Result<Vec<u8>
     ensures gives { IfOk result (λ out. GivesBits text.now (only_writes out.items)) }
     ensures refused { IfErr result (RefusesBy (RefusesBitsOf name.now text.now)) }
 {
-    let ordered = match ordered_net(alloc, name, text) {
-        Ok(ordered) => ordered,
-        Err(refusal) => return Err(refusal),
-    };
+    let ordered = ordered_net(alloc, name, text)?;
     match aiger_text(alloc, &ordered) {
         Ok(text) => Ok(text),
         Err(error) => Err(refusal_of_net(alloc, ordered.net(), error)),
@@ -58,8 +54,6 @@ pub fn aigstat_lines<'a>(alloc: Global, name: &'a str, text: &[u8]) -> Result<Li
         Err(AigErr::Refused(rule, line)) => return Err(Refusal::Aig(name, line, rule)),
         Err(AigErr::NoMemory) => return Err(Refusal::NoMemory),
     };
-    match counts_lines(alloc, &circuit) {
-        Ok(text) => Ok(Lines { comes: true, text }),
-        Err(NoMemory) => Err(Refusal::NoMemory),
-    }
+    let text = counts_lines(alloc, &circuit)?;
+    Ok(Lines { comes: true, text })
 }

@@ -11,7 +11,6 @@ use crate::source::{check_source, compile};
 use safl_compiler::optimised_circuit_of;
 use safl_verilog::laws::{no_shorter_text_law, written_reads_law};
 use safl_vwrite::text_of;
-use safl_word::NoMemory;
 use std::alloc::Global;
 
 /// The Verilog text of the circuit of the source `name`, or why the source is refused.
@@ -20,16 +19,10 @@ pub fn circuit_text<'a>(alloc: Global, name: &'a str, source: &[u8]) -> Result<V
     ensures gives { IfOk result (λ text. GivesCircuit source.now (only_writes text.items)) }
     ensures refused { IfErr result (RefusesBy (RefusesSourceOf name.now source.now)) }
 {
-    let net = match compile(alloc, name, source) {
-        Ok(net) => net,
-        Err(refusal) => return Err(refusal),
-    };
+    let net = compile(alloc, name, source)?;
     written_reads_law();
     no_shorter_text_law();
-    match text_of(alloc, &net) {
-        Ok(text) => Ok(text),
-        Err(NoMemory) => Err(Refusal::NoMemory),
-    }
+    Ok(text_of(alloc, &net)?)
 }
 
 /// The Verilog text of the optimised circuit of the source `name`, or why the source is refused.
@@ -42,19 +35,10 @@ pub fn optimised_text<'a>(
     ensures gives { IfOk result (λ text. GivesOptimised source.now (only_writes text.items)) }
     ensures refused { IfErr result (RefusesBy (RefusesSourceOf name.now source.now)) }
 {
-    let checked = match check_source(alloc, name, source) {
-        Ok(checked) => checked,
-        Err(refusal) => return Err(refusal),
-    };
-    let net = match optimised_circuit_of(alloc, checked) {
-        Ok(net) => net,
-        Err(NoMemory) => return Err(Refusal::NoMemory),
-    };
+    let checked = check_source(alloc, name, source)?;
+    let net = optimised_circuit_of(alloc, checked)?;
     let _count = net.signals();
     written_reads_law();
     no_shorter_text_law();
-    match text_of(alloc, &net) {
-        Ok(text) => Ok(text),
-        Err(NoMemory) => Err(Refusal::NoMemory),
-    }
+    Ok(text_of(alloc, &net)?)
 }

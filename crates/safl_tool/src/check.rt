@@ -20,14 +20,9 @@ pub fn check_lines<'a>(alloc: Global, name: &'a str, source: &[u8]) -> Result<Li
     ensures gives { IfOk result (λ l. GivesNumbers source.now (printed l)) }
     ensures refused { IfErr result (RefusesBy (RefusesSourceOf name.now source.now)) }
 {
-    let checked = match check_source(alloc, name, source) {
-        Ok(checked) => checked,
-        Err(refusal) => return Err(refusal),
-    };
-    match text_of(alloc, &checked) {
-        Ok(text) => Ok(Lines { comes: true, text }),
-        Err(NoMemory) => Err(Refusal::NoMemory),
-    }
+    let checked = check_source(alloc, name, source)?;
+    let text = text_of(alloc, &checked)?;
+    Ok(Lines { comes: true, text })
 }
 
 fn text_of(alloc: Global, checked: &Checked) -> Result<Vec<u8>, NoMemory>

@@ -15,7 +15,7 @@ use crate::simulate::{push_outcome, run_circuit};
 use crate::source::plan_source;
 use safl_command::Count;
 use safl_compiler::planned_circuit;
-use safl_gen::generate;
+use safl_gen::{GenErr, generate};
 use safl_net::Net;
 use safl_report::summary;
 use safl_sites::Planned;
@@ -27,10 +27,8 @@ pub fn gen_lines<'a>(alloc: Global, seed: u64, count: Count) -> Result<Lines, Re
     ensures gives { IfOk result (λ l. printed l ≡ only_prints true (made_source seed count.functions)) }
     ensures refused { IfErr result (RefusesBy (λ s line. ⊥)) }
 {
-    match source_of(alloc, seed, count) {
-        Ok(text) => Ok(Lines { comes: true, text }),
-        Err(NoMemory) => Err(Refusal::NoMemory),
-    }
+    let text = source_of(alloc, seed, count)?;
+    Ok(Lines { comes: true, text })
 }
 
 /// What `bench` prints of the source for a seed and of a run of its circuit.
@@ -43,12 +41,8 @@ pub fn bench_lines<'a>(
     ensures gives { IfOk result (λ l. GivesMeasure (made_args seed count.functions) limit (made_source seed count.functions) (printed l)) }
     ensures refused { IfErr result (RefusesBy (RefusesGiven (codes "bench") (made_args seed count.functions) (made_source seed count.functions))) }
 {
-    let Ok(source) = source_of(alloc, seed, count) else {
-        return Err(Refusal::NoMemory);
-    };
-    let Ok(args) = args_of(alloc, seed, count.functions) else {
-        return Err(Refusal::NoMemory);
-    };
+    let source = source_of(alloc, seed, count)?;
+    let args = args_of(alloc, seed, count.functions)?;
     measure(alloc, "bench", &source, limit, &args)
 }
 
@@ -58,8 +52,8 @@ fn source_of(alloc: Global, seed: u64, count: Count) -> Result<Vec<u8>, NoMemory
 {
     match generate(alloc, seed, count.functions) {
         Ok(text) => Ok(text),
-        // The number of functions is in range, so only memory can have run out.
-        Err(_) => Err(NoMemory),
+        Err(GenErr::Count) => unreachable!(),
+        Err(GenErr::NoMemory) => Err(NoMemory),
     }
 }
 
@@ -93,24 +87,12 @@ fn measure<'a>(
     ensures gives { IfOk result (λ l. GivesMeasure (map string_bytes args.now) limit source.now (printed l)) }
     ensures refused { IfErr result (RefusesBy (RefusesGiven name.now (map string_bytes args.now) source.now)) }
 {
-    let planned = match plan_source(alloc, name, source) {
-        Ok(planned) => planned,
-        Err(refusal) => return Err(refusal),
-    };
-    let Ok(net) = planned_circuit(alloc, &planned) else {
-        return Err(Refusal::NoMemory);
-    };
-    let Ok(mut text) = head_of(alloc, &planned, &net) else {
-        return Err(Refusal::NoMemory);
-    };
-    let done = match run_circuit(alloc, net, limit, args) {
-        Ok(done) => done,
-        Err(refusal) => return Err(refusal),
-    };
-    match push_outcome(&mut text, limit, done) {
-        Ok(comes) => Ok(Lines { comes, text }),
-        Err(NoMemory) => Err(Refusal::NoMemory),
-    }
+    let planned = plan_source(alloc, name, source)?;
+    let net = planned_circuit(alloc, &planned)?;
+    let mut text = head_of(alloc, &planned, &net)?;
+    let done = run_circuit(alloc, net, limit, args)?;
+    let comes = push_outcome(&mut text, limit, done)?;
+    Ok(Lines { comes, text })
 }
 
 // The numbers of a program, and the summary of its plan and of its netlist.

@@ -37,17 +37,9 @@ pub fn ready_source<'a>(
     ensures ready { IfOk result (IsReadyOf source.now (map string_bytes args.now)) }
     ensures refused { IfErr result (RefusesBy (RefusesGiven name.now (map string_bytes args.now) source.now)) }
 {
-    let net = match compile(alloc, name, source) {
-        Ok(net) => net,
-        Err(refusal) => return Err(refusal),
-    };
-    let Ok(ordered) = ordered(alloc, net) else {
-        return Err(Refusal::NoMemory);
-    };
-    match ready_net(alloc, ordered, args) {
-        Ok(ready) => Ok(ready),
-        Err(refusal) => Err(refusal),
-    }
+    let net = compile(alloc, name, source)?;
+    let ordered = ordered(alloc, net)?;
+    Ok(ready_net(alloc, ordered, args)?)
 }
 
 /// A simulator of a net, with these arguments, or why it cannot run.
@@ -56,13 +48,8 @@ pub fn ready_net<'a>(alloc: Global, ordered: Ordered, args: &[String]) -> Result
     ensures ready { IfOk result (IsReady ordered.net (map string_bytes args.now)) }
     ensures refused { IfErr result (RefusesBy (RefusesArguments (argument_widths ordered.net.signals) (map string_bytes args.now))) }
 {
-    let Ok(widths) = argument_widths(alloc, ordered.net()) else {
-        return Err(Refusal::NoMemory);
-    };
-    let words = match read_arguments(alloc, &widths, args) {
-        Ok(words) => words,
-        Err(refusal) => return Err(refusal),
-    };
+    let widths = argument_widths(alloc, ordered.net())?;
+    let words = read_arguments(alloc, &widths, args)?;
     let Ok(sim) = Sim::new(alloc, ordered) else {
         return Err(Refusal::NoMemory);
     };

@@ -4,6 +4,7 @@ ghost use Rattle.std.specs.Prelude.{◌≡◌, ◌++◌, IfOk, OnOk, codes};
 ghost use Rattle.safl_task.specs.Lines.{long_line};
 ghost use Rattle.safl_tool.specs.Lines.{line_at, column_at, count_line, argument_line, numbered_line, placed_line, site_line, probe_line};
 ghost use Rattle.safl_tool.specs.Refusals.{status_of, line_of, IsOfUnread};
+ghost use Rattle.safl_tool.specs.declared.refusal.Refusal.TheVariants as refusals;
 ghost use Rattle.safl_word.specs.Faults.{fault_text};
 
 use crate::verilog_lines::{loop_line, verilog_line};
@@ -11,7 +12,7 @@ use safl_aig::{AigRule, fault_line, register_line, weight_line};
 use safl_task::{Status, Unread};
 use safl_verilog::VFault;
 use safl_word::{Fault, NoMemory, Raw, push_decimal, push_fault};
-use std::alloc::Global;
+use std::alloc::{AllocError, Global};
 
 // The usage line. It is fixed, and names neither every command nor the options.
 const USAGE: &[u8] =
@@ -57,6 +58,22 @@ pub enum Refusal<'a> {
     /// A probe of this kind failed.
     Probe(u8),
     NoMemory,
+}
+
+impl<'a> From<NoMemory> for Refusal<'a> {
+    ghost from_gives = { λ _ r. r ≡ refusals.NoMemory };
+
+    fn from(_: NoMemory) -> Self {
+        Refusal::NoMemory
+    }
+}
+
+impl<'a> From<AllocError> for Refusal<'a> {
+    ghost from_gives = { λ _ r. r ≡ refusals.NoMemory };
+
+    fn from(_: AllocError) -> Self {
+        Refusal::NoMemory
+    }
 }
 
 impl<'a> Refusal<'a> {
@@ -135,8 +152,7 @@ impl<'a> Refusal<'a> {
 fn text_of(alloc: Global, text: &[u8]) -> Result<Vec<u8>, NoMemory>
     ensures { IfOk result (λ line. line.items ≡ text.now) }
 {
-    let line = Vec::from_slice(alloc, text)?;
-    Ok(line)
+    Ok(Vec::from_slice(alloc, text)?)
 }
 
 fn source_line(

@@ -22,14 +22,9 @@ pub fn report_lines<'a>(alloc: Global, name: &'a str, source: &[u8]) -> Result<L
     ensures gives { IfOk result (λ l. GivesReport source.now (printed l)) }
     ensures refused { IfErr result (RefusesBy (RefusesSourceOf name.now source.now)) }
 {
-    let planned = match plan_source(alloc, name, source) {
-        Ok(planned) => planned,
-        Err(refusal) => return Err(refusal),
-    };
-    match report_of(alloc, &planned) {
-        Ok(text) => Ok(Lines { comes: true, text }),
-        Err(NoMemory) => Err(Refusal::NoMemory),
-    }
+    let planned = plan_source(alloc, name, source)?;
+    let text = report_of(alloc, &planned)?;
+    Ok(Lines { comes: true, text })
 }
 
 fn report_of(alloc: Global, p: &Planned) -> Result<Vec<u8>, NoMemory>

@@ -30,10 +30,7 @@ pub fn copy_text<'a>(
     ensures refused { IfErr result (RefusesBy (RefusesReshaping (copies site) name.now site source.now)) }
 {
     printed_form_law();
-    let accepted = match read_program(alloc, name, source) {
-        Ok(accepted) => accepted,
-        Err(refusal) => return Err(refusal),
-    };
+    let accepted = read_program(alloc, name, source)?;
     let number = match site_number(site) {
         Some(number) => number,
         None => return Err(refusal_of(site, ReshapeErr::NoSite)),
@@ -57,10 +54,7 @@ pub fn unfold_text<'a>(
     ensures refused { IfErr result (RefusesBy (RefusesReshaping (unfolds site) name.now site source.now)) }
 {
     printed_form_law();
-    let accepted = match read_program(alloc, name, source) {
-        Ok(accepted) => accepted,
-        Err(refusal) => return Err(refusal),
-    };
+    let accepted = read_program(alloc, name, source)?;
     let number = match site_number(site) {
         Some(number) => number,
         None => return Err(refusal_of(site, ReshapeErr::NoSite)),
@@ -78,9 +72,7 @@ fn text_of<'a>(alloc: Global, site: u64, program: &Program) -> Result<Vec<u8>, R
     ensures short { OnOk result (length (printed (shown_program program.now)) ≤ source_max) }
     ensures refused { IfErr result (RefusesBy (TellsLong site (printed (shown_program program.now)))) }
 {
-    let Ok(text) = print(alloc, program) else {
-        return Err(Refusal::NoMemory);
-    };
+    let text = print(alloc, program)?;
     if text.len() > SOURCE_MAX {
         return Err(Refusal::Site(site, "text too long"));
     }

@@ -21,7 +21,6 @@ use safl_sim::Done;
 use safl_verilog::VFault;
 use safl_vparse::VErr;
 use safl_vread::read_net;
-use safl_word::NoMemory;
 use std::alloc::{AllocError, Global};
 
 /// What is printed of a run of the netlist of the Verilog file `name`, or why it is not run.
@@ -36,14 +35,8 @@ pub fn run_lines<'a>(
     ensures gives { IfOk result (λ l. GivesRun (map string_bytes args.now) limit text.now (printed l)) }
     ensures refused { IfErr result (RefusesBy (RefusesText name.now (map string_bytes args.now) text.now)) }
 {
-    let done = match run_text(alloc, name, text, limit, args) {
-        Ok(done) => done,
-        Err(refusal) => return Err(refusal),
-    };
-    match outcome(alloc, limit, done) {
-        Ok(lines) => Ok(lines),
-        Err(NoMemory) => Err(Refusal::NoMemory),
-    }
+    let done = run_text(alloc, name, text, limit, args)?;
+    Ok(outcome(alloc, limit, done)?)
 }
 
 // The result of a run of the netlist of the Verilog file `name`.
@@ -58,14 +51,8 @@ fn run_text<'a>(
     ensures answer { IfOk result (RunsText text.now (map string_bytes args.now) limit) }
     ensures refused { IfErr result (RefusesBy (RefusesText name.now (map string_bytes args.now) text.now)) }
 {
-    let ordered = match ordered_net(alloc, name, text) {
-        Ok(ordered) => ordered,
-        Err(refusal) => return Err(refusal),
-    };
-    match run_net(alloc, ordered, limit, args) {
-        Ok(answer) => Ok(answer),
-        Err(refusal) => Err(refusal),
-    }
+    let ordered = ordered_net(alloc, name, text)?;
+    Ok(run_net(alloc, ordered, limit, args)?)
 }
 
 /// The netlist of the Verilog file `name`, with an order of evaluation of its wires, or why the file is refused.
@@ -87,8 +74,8 @@ pub fn ordered_net<'a>(alloc: Global, name: &'a str, text: &[u8]) -> Result<Orde
             Ok(ordered)
         }
         Err(OrderErr::Loop(wires, net)) => Err(refusal_of_loop(alloc, name, &net, &wires)),
-        // A net that was read has no unset wire or register, so only memory can have run out.
-        Err(_) => Err(Refusal::NoMemory),
+        Err(OrderErr::Unset(_, _)) => unreachable!(),
+        Err(OrderErr::NoMemory(_)) => Err(Refusal::NoMemory),
     }
 }
 

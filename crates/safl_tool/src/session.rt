@@ -41,13 +41,8 @@ pub fn ready_session<'a>(
     ensures opened { IfOk result (IsReadySession source.now script.now) }
     ensures refused { IfErr result (RefusesBy (RefusesSession name.now source.now script.now)) }
 {
-    let net = match compile(alloc, name, source) {
-        Ok(net) => net,
-        Err(refusal) => return Err(refusal),
-    };
-    let Ok(widths) = argument_widths(alloc, &net) else {
-        return Err(Refusal::NoMemory);
-    };
+    let net = compile(alloc, name, source)?;
+    let widths = argument_widths(alloc, &net)?;
     let calls = match read_script(alloc, script, &widths) {
         Ok(calls) => calls,
         Err(ScriptErr::Count(line, given)) => {
@@ -59,9 +54,7 @@ pub fn ready_session<'a>(
         }
         Err(ScriptErr::NoMemory) => return Err(Refusal::NoMemory),
     };
-    let Ok(ordered) = ordered(alloc, net) else {
-        return Err(Refusal::NoMemory);
-    };
+    let ordered = ordered(alloc, net)?;
     let Ok(sim) = Sim::new(alloc, ordered) else {
         return Err(Refusal::NoMemory);
     };

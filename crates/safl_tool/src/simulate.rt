@@ -35,9 +35,7 @@ pub fn run_circuit<'a>(
     ensures answer { IfOk result (GivesOutcome net (map string_bytes args.now) limit) }
     ensures refused { IfErr result (RefusesBy (RefusesArguments (argument_widths net.signals) (map string_bytes args.now))) }
 {
-    let Ok(ordered) = ordered(alloc, net) else {
-        return Err(Refusal::NoMemory);
-    };
+    let ordered = ordered(alloc, net)?;
     run_net(alloc, ordered, limit, args)
 }
 
@@ -52,14 +50,8 @@ pub fn run_net<'a>(
     ensures answer { IfOk result (GivesOutcome ordered.net (map string_bytes args.now) limit) }
     ensures refused { IfErr result (RefusesBy (RefusesArguments (argument_widths ordered.net.signals) (map string_bytes args.now))) }
 {
-    let mut ready = match ready_net(alloc, ordered, args) {
-        Ok(ready) => ready,
-        Err(refusal) => return Err(refusal),
-    };
-    match run_until_done(alloc, &mut ready.sim, &ready.words, limit) {
-        Ok(answer) => Ok(answer),
-        Err(NoMemory) => Err(Refusal::NoMemory),
-    }
+    let mut ready = ready_net(alloc, ordered, args)?;
+    Ok(run_until_done(alloc, &mut ready.sim, &ready.words, limit)?)
 }
 
 /// What is printed of the outcome of a run.

@@ -18,7 +18,7 @@ use safl_net::Net;
 use safl_sites::Planned;
 use safl_task::Status;
 use safl_term::Checked;
-use safl_word::{Fault, NoMemory};
+use safl_word::Fault;
 use std::alloc::Global;
 
 /// The checked program of the source `name`, or why the source is refused.
@@ -30,7 +30,8 @@ pub fn check_source<'a>(alloc: Global, name: &'a str, source: &[u8]) -> Result<C
     match accept(alloc, source) {
         Ok(checked) => Ok(checked),
         Err(CheckErr::Refused(fault)) => Err(refusal_of(name, source, fault)),
-        Err(CheckErr::TooDeep | CheckErr::NoMemory) => Err(Refusal::NoMemory),
+        Err(CheckErr::TooDeep) => unreachable!(),
+        Err(CheckErr::NoMemory) => Err(Refusal::NoMemory),
     }
 }
 
@@ -40,17 +41,10 @@ pub fn compile<'a>(alloc: Global, name: &'a str, source: &[u8]) -> Result<Net, R
     ensures compiled { IfOk result (IsCompiled source.now) }
     ensures refused { IfErr result (RefusesBy (RefusesSourceOf name.now source.now)) }
 {
-    let checked = match check_source(alloc, name, source) {
-        Ok(checked) => checked,
-        Err(refusal) => return Err(refusal),
-    };
-    match circuit_of(alloc, checked) {
-        Ok(net) => {
-            let _count = net.signals();
-            Ok(net)
-        }
-        Err(NoMemory) => Err(Refusal::NoMemory),
-    }
+    let checked = check_source(alloc, name, source)?;
+    let net = circuit_of(alloc, checked)?;
+    let _count = net.signals();
+    Ok(net)
 }
 
 /// The planned program of the source `name`, or why the source is refused.
@@ -59,14 +53,8 @@ pub fn plan_source<'a>(alloc: Global, name: &'a str, source: &[u8]) -> Result<Pl
     ensures planned { IfOk result (λ p. IsSourceOf source.now p.program p.names) }
     ensures refused { IfErr result (RefusesBy (RefusesSourceOf name.now source.now)) }
 {
-    let checked = match check_source(alloc, name, source) {
-        Ok(checked) => checked,
-        Err(refusal) => return Err(refusal),
-    };
-    match plan_of(alloc, checked) {
-        Ok(planned) => Ok(planned),
-        Err(NoMemory) => Err(Refusal::NoMemory),
-    }
+    let checked = check_source(alloc, name, source)?;
+    Ok(plan_of(alloc, checked)?)
 }
 
 /// The program that the source `name` spells, or why the source is refused.
@@ -85,7 +73,8 @@ pub fn read_program<'a>(
     match accepted_program(alloc, source) {
         Ok(accepted) => Ok(accepted),
         Err(CheckErr::Refused(fault)) => Err(refusal_of(name, source, fault)),
-        Err(CheckErr::TooDeep | CheckErr::NoMemory) => Err(Refusal::NoMemory),
+        Err(CheckErr::TooDeep) => unreachable!(),
+        Err(CheckErr::NoMemory) => Err(Refusal::NoMemory),
     }
 }
 

@@ -2,6 +2,7 @@
 
 ghost use Rattle.std.specs.Prelude.{map, option_map, string_bytes};
 ghost use Rattle.safl_command.specs.Commands.{command_of, shown_command};
+ghost use Rattle.safl_probe.specs.Asked.{NoneBegun};
 ghost use Rattle.safl_tool.specs.Changes.{AttendedOn, AttendsOn, DoesOn, EndsOn, FollowsOn, SparesOn};
 ghost use Rattle.safl_tool.specs.Headline.{Builds};
 ghost use Rattle.safl_tool.specs.Promises.{Checks, SimPrints, SessionPrints, Converts};
@@ -33,6 +34,9 @@ pub fn run<S: Shelf, O: Sink, E: Sink>(
     err: &mut E,
     probes: &mut Vec<Box<dyn Probe>>,
 ) -> Status
+    // No probe was begun before.
+    requires { NoneBegun state probes.old.items }
+
     // Where `build IN OUT` ends with Ok, OUT reads as a netlist that is correct for the program whose source IN held.
     ensures headline { Builds words.now S.told shelf.old shelf.new result }
     // Where `check` ends with Ok, IN held the source of a program, with the printed numbers of functions and call sites.
@@ -44,9 +48,9 @@ pub fn run<S: Shelf, O: Sink, E: Sink>(
     // Where `aig` ends with Ok, OUT is the text of a bit-level circuit of the netlist that FILE's text reads as.
     ensures aig { Converts words.now S.told shelf.old shelf.new result }
     // The cause of each status, what was given, and what `err` got.
-    ensures ends { EndsOn words.now S.told shelf.old shelf.new O.told out.old out.new E.told err.old err.new (λ p. state p) probes.old probes.new result }
+    ensures ends { EndsOn words.now S.told shelf.old shelf.new O.told out.old out.new E.told err.old err.new state probes.old probes.new result }
     // What holds of every command.
-    ensures follows { FollowsOn words.now S.told shelf.old shelf.new O.told out.old out.new (λ p. state p) probes.old probes.new result }
+    ensures follows { FollowsOn words.now S.told shelf.old shelf.new O.told out.old out.new state probes.old probes.new result }
 {
     one_program_law();
     not_both_law();
@@ -68,9 +72,10 @@ fn dispatch<S: Shelf, O: Sink, E: Sink>(
     err: &mut E,
     probes: &mut Vec<Box<dyn Probe>>,
 ) -> Status
-    ensures ends { EndsOn words.now S.told shelf.old shelf.new O.told out.old out.new E.told err.old err.new (λ p. state p) probes.old probes.new result }
-    ensures spares { SparesOn (command_of (map string_bytes words.now)) S.told shelf.old shelf.new O.told out.old out.new (λ p. state p) probes.old probes.new }
-    ensures attended { AttendedOn words.now S.told shelf.old (λ p. state p) probes.old probes.new result }
+    requires { NoneBegun state probes.old.items }
+    ensures ends { EndsOn words.now S.told shelf.old shelf.new O.told out.old out.new E.told err.old err.new state probes.old probes.new result }
+    ensures spares { SparesOn (command_of (map string_bytes words.now)) S.told shelf.old shelf.new O.told out.old out.new state probes.old probes.new }
+    ensures attended { AttendedOn words.now S.told shelf.old state probes.old probes.new result }
 {
     let command = match read_words(alloc, words) {
         Ok(command) => command,
@@ -90,9 +95,10 @@ fn obey<'a, S: Shelf, O: Sink>(
     out: &mut O,
     probes: &mut Vec<Box<dyn Probe>>,
 ) -> Result<Status, Refusal<'a>>
-    ensures does { DoesOn (option_map shown_command command.now) S.told shelf.old shelf.new O.told out.old out.new (λ p. state p) probes.old probes.new result }
-    ensures spares { SparesOn (option_map shown_command command.now) S.told shelf.old shelf.new O.told out.old out.new (λ p. state p) probes.old probes.new }
-    ensures attends { AttendsOn (option_map shown_command command.now) S.told shelf.old (λ p. state p) probes.old probes.new result }
+    requires { NoneBegun state probes.old.items }
+    ensures does { DoesOn (option_map shown_command command.now) S.told shelf.old shelf.new O.told out.old out.new state probes.old probes.new result }
+    ensures spares { SparesOn (option_map shown_command command.now) S.told shelf.old shelf.new O.told out.old out.new state probes.old probes.new }
+    ensures attends { AttendsOn (option_map shown_command command.now) S.told shelf.old state probes.old probes.new result }
 {
     match command {
         Some(command) => perform(alloc, command, shelf, out, probes),

@@ -25,7 +25,6 @@ use safl_probe::laws::end_law;
 use safl_probe::{DriveErr, Probe, drive};
 use safl_sim::Done;
 use safl_task::Status;
-use safl_word::NoMemory;
 use std::alloc::Global;
 
 /// A run of at most `limit` cycles, and the files for its traces.
@@ -54,14 +53,9 @@ pub fn trace<'a, S: Shelf, O: Sink>(
 {
     end_law();
     let limit = run.limit;
-    let done = match watch(alloc, run, files, shelf, probes) {
-        Ok(done) => done,
-        Err(refusal) => return Err(refusal),
-    };
-    match outcome(alloc, limit, done) {
-        Ok(lines) => print(out, lines),
-        Err(NoMemory) => Err(Refusal::NoMemory),
-    }
+    let done = watch(alloc, run, files, shelf, probes)?;
+    let lines = outcome(alloc, limit, done)?;
+    print(out, lines)
 }
 
 // Makes a run. Each asked probe writes its trace to the file at its place.

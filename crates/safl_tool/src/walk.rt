@@ -13,7 +13,7 @@ use crate::arguments::{main_widths, read_arguments};
 use crate::refusal::{Refusal, push};
 use crate::source::check_source;
 use safl_command::Turns;
-use safl_core::{Machine, Walked, walk};
+use safl_core::{Machine, MachineErr, Walked, walk};
 use safl_term::Checked;
 use safl_word::{NoMemory, Raw, Word, push_decimal};
 use std::alloc::Global;
@@ -30,14 +30,8 @@ pub fn walk_lines<'a>(
     ensures gives { IfOk result (λ l. GivesWalk (map string_bytes args.now) turns.seed turns.steps source.now (printed l)) }
     ensures refused { IfErr result (RefusesBy (RefusesGiven name.now (map string_bytes args.now) source.now)) }
 {
-    let walked = match walk_machine(alloc, name, source, turns, args) {
-        Ok(walked) => walked,
-        Err(refusal) => return Err(refusal),
-    };
-    match end_of_walk(alloc, turns.steps, walked) {
-        Ok(lines) => Ok(lines),
-        Err(NoMemory) => Err(Refusal::NoMemory),
-    }
+    let walked = walk_machine(alloc, name, source, turns, args)?;
+    Ok(end_of_walk(alloc, turns.steps, walked)?)
 }
 
 // The outcome of a walk of the call machine of the source `name`.
@@ -52,21 +46,10 @@ fn walk_machine<'a>(
     ensures walks { IfOk result (Walks source.now (map string_bytes args.now) turns.seed turns.steps) }
     ensures refused { IfErr result (RefusesBy (RefusesGiven name.now (map string_bytes args.now) source.now)) }
 {
-    let checked = match check_source(alloc, name, source) {
-        Ok(checked) => checked,
-        Err(refusal) => return Err(refusal),
-    };
-    let Ok(widths) = main_widths(alloc, &checked) else {
-        return Err(Refusal::NoMemory);
-    };
-    let words = match read_arguments(alloc, &widths, args) {
-        Ok(words) => words,
-        Err(refusal) => return Err(refusal),
-    };
-    match walk_with(alloc, &checked, &words, turns.seed, turns.steps) {
-        Ok(walked) => Ok(walked),
-        Err(NoMemory) => Err(Refusal::NoMemory),
-    }
+    let checked = check_source(alloc, name, source)?;
+    let widths = main_widths(alloc, &checked)?;
+    let words = read_arguments(alloc, &widths, args)?;
+    Ok(walk_with(alloc, &checked, &words, turns.seed, turns.steps)?)
 }
 
 // The outcome of a walk of a new machine with these arguments.
@@ -82,8 +65,8 @@ fn walk_with(
 {
     match Machine::new(alloc, checked, words) {
         Ok(mut machine) => Ok(walk(&mut machine, seed, u64::from(steps))),
-        // The words fit main's parameters, so only memory can have run out.
-        Err(_) => Err(NoMemory),
+        Err(MachineErr::BadArgs) => unreachable!(),
+        Err(MachineErr::NoMemory) => Err(NoMemory),
     }
 }
 

@@ -2,7 +2,7 @@
 
 ghost use Rattle.std.specs.Prelude.{◌≡◌, IfOk, IfErr, None, Some, map};
 ghost use Rattle.safl_command.specs.Commands.{shown_command};
-ghost use Rattle.safl_probe.specs.Asked.{asked};
+ghost use Rattle.safl_probe.specs.Asked.{asked, NoneBegun};
 ghost use Rattle.safl_task.specs.Inputs.{shown_inputs, shown_contents};
 ghost use Rattle.safl_task.specs.Tasks.{AreContents};
 ghost use Rattle.safl_tool.specs.Answers.{Answers, traces_for};
@@ -42,6 +42,7 @@ pub fn perform<'a, S: Shelf, O: Sink>(
     out: &mut O,
     probes: &mut Vec<Box<dyn Probe>>,
 ) -> Result<Status, Refusal<'a>>
+    requires { NoneBegun state probes.old.items }
     ensures does { DoesOn (Some (shown_command command.now)) S.told shelf.old shelf.new O.told out.old out.new (λ p. state p) probes.old probes.new result }
     ensures spares { SparesOn (Some (shown_command command.now)) S.told shelf.old shelf.new O.told out.old out.new (λ p. state p) probes.old probes.new }
     ensures attends { AttendsOn (Some (shown_command command.now)) S.told shelf.old (λ p. state p) probes.old probes.new result }
@@ -79,17 +80,12 @@ fn carry_out<'a, S: Shelf, O: Sink>(
         (λ p. state p) probes.old probes.new }
     ensures attends { AttendsAskedOn (shown_command command.now) files.now S.told shelf.old (λ p. state p) probes.old probes.new result }
 {
-    let Ok(inputs) = inputs_of(alloc, command) else {
-        return Err(Refusal::NoMemory);
-    };
+    let inputs = inputs_of(alloc, command)?;
     let contents = match read_inputs(alloc, shelf, &inputs) {
         Ok(contents) => contents,
         Err(unread) => return Err(Refusal::of_unread(unread)),
     };
-    let answer = match answer_of(alloc, command, &contents) {
-        Ok(answer) => answer,
-        Err(refusal) => return Err(refusal),
-    };
+    let answer = answer_of(alloc, command, &contents)?;
     give(alloc, answer, files, shelf, out, probes)
 }
 

@@ -24,6 +24,10 @@ returns-in-Ok-clause-circuit c =
     mirrored c.circuit_law.ensures c.plan_law.ensures c.scheme_carries_over.ensures c.plan_carries_over.ensures c.args.checked.program c.args.checked.names n m
     c.functions-functions.ensures.checked.formed c.in_ok-first.ensures.circuit mirrors
 
+pub returns-in-Ok-clause-smaller : goal.returns-in-Ok-clause-smaller
+returns-in-Ok-clause-smaller c =
+    (c.in_ok-first.first, c.in_ok-first.ensures.circuit, subst (λ (x : Netlist). IsSmaller x c.in-Ok.net) c.in_ok-ordered.ensures c.in-Ok.ensures.smaller)
+
 pub returns-in-Ok-clause-whole : goal.returns-in-Ok-clause-whole
 returns-in-Ok-clause-whole c =
     (subst (λ (x : Netlist). IsSmaller x c.in-Ok.net) c.in_ok-ordered.ensures c.in-Ok.ensures.smaller).whole c.in_ok-first.ensures.whole

@@ -1,4 +1,4 @@
-use Rattle.std.proofs.Common.{◌≡◌, List, [], map, slice_index, Vec, Global, Option, refl, sym, subst, ◌∙◌, arith}
+use Rattle.std.proofs.Common.{◌≡◌, List, map, slice_index, Vec, Global, Option, refl, sym, ap, subst, ◌∙◌, arith}
 use Rattle.std.proofs.lemmas.List.{with_items_is}
 use Rattle.std.proofs.lemmas.Result.{err_from_is_err_and}
 use Rattle.safl_word.specs.Words.{Word}
@@ -12,7 +12,7 @@ use Rattle.safl_run.specs.Calls.{cycles_of}
 use Rattle.safl_run.specs.Steps.{IsCalled}
 use Rattle.safl_run.proofs.OneAnswer.{outcome, answers_along, from_reset}
 use Rattle.safl_probe.specs.Calls.{after_frames}
-use Rattle.safl_probe.specs.Probing.{ProbeState, Tells, begun}
+use Rattle.safl_probe.specs.Probing.{ProbeState, IsWaiting, Tells, begun, ended}
 use Rattle.safl_probe.specs.Rooms.{HasWidths}
 use Rattle.safl_probe.specs.Asked.{Asked, asked, probe_at}
 use Rattle.safl_probe.specs.Growth.{Made, OldOrPart}
@@ -28,7 +28,12 @@ use Rattle.safl_probe.proofs.driving.drive.Goals as goal
 -- ---- the calls
 
 pub tell_all-requires : goal.tell_all-requires
-tell_all-requires g c = record { files = c.requires.files ∙ sym (let a = c.as_mut_slice-probes.ensures.len in omega (arith, a)); can = λ i name k. tt }
+tell_all-requires g c = record {
+  files = c.requires.probes.files ∙ sym (let a = c.as_mut_slice-probes.ensures.len in omega (arith, a));
+  can = λ i name k.
+      subst (λ l. IsWaiting (probe_at (map (λ p. (goal.Probe-dyn g (p.vtable, p.value)).state p.value) l) i)) (sym c.as_mut_slice-probes.ensures.value)
+      (c.requires.probes.waiting i name k);
+}
 
 pub watch-requires-clause-called : goal.watch-requires-clause-called
 watch-requires-clause-called g c =
@@ -41,7 +46,7 @@ watch-requires-clause-ready g c =
     let ps : List ProbeState = map (λ p. (goal.Probe-dyn g (p.vtable, p.value)).state p.value) c.as_mut_slice-probes.result.now in
     let qs : List ProbeState = map (λ p. (goal.Probe-dyn g (p.vtable, p.value)).state p.value) c.tell_all.new.probes in
     record {
-      files = (let l = c.as_mut_slice-probes.ensures.len in let a = c.tell_all.auto.probes in let b = c.requires.files in omega (arith, l, a, b));
+      files = (let l = c.as_mut_slice-probes.ensures.len in let a = c.tell_all.auto.probes in let b = c.requires.probes.files in omega (arith, l, a, b));
       ready = λ i name k. ready n (probe_at ps i) (probe_at qs i) (told_begun c.net-net.result.now n c.net-net.ensures names ps qs c.in_ok-tell_all.ensures.told.tells i name k);
     }
 
@@ -59,7 +64,7 @@ tell_all-requires-2 g c =
     let d = c.in_ok-done.ensures.watched.watches c.args.args.now (subst (λ m. IsCalled m c.args.args.now c.take_arguments.new.harness) c.net-net.ensures c.take_arguments.ensures) in
     let frames : List Valuation = cycles_of n c.args.limit (slice_index c.args.sim.now.state) c.args.args.now c.in_ok-done.done (slice_index c.watch.new.sim.state) d.answers in
     record {
-      files = (let l = c.as_mut_slice-probes.ensures.len in let a = c.tell_all.auto.probes in let b = c.watch.auto.probes in let f = c.requires.files in omega (arith, l, a, b, f));
+      files = (let l = c.as_mut_slice-probes.ensures.len in let a = c.tell_all.auto.probes in let b = c.watch.auto.probes in let f = c.requires.probes.files in omega (arith, l, a, b, f));
       can = λ i name k. can_finish n frames (probe_at ps i) (probe_at qs i) (probe_at rs i)
           (told_begun c.net-net.result.now n c.net-net.ensures names ps qs c.in_ok-tell_all.ensures.told.tells i name k) (d.shown.told i name k);
     }
@@ -272,9 +277,8 @@ returns-clause-traced g c =
           let begins : Tells p (probe_at qs i) =
           told_begun c.net-net.result.now n c.net-net.ensures names ps qs c.in_ok-tell_all.ensures.told.tells i name k in
           let shows : Tells (after_frames frames p) (probe_at rs i) = tells_frames frames p (probe_at qs i) (probe_at rs i) begins (d.shown.told i name k) in
-          let ends : Tells (after_frames frames p) (probe_at ws i) =
-          tells_frames [] (after_frames frames p) (probe_at rs i) (probe_at ws i) shows (c.in_ok-tell_all-2.ensures.told.tells i name k) in
-          subst (λ (fs : List Valuation). Tells (after_frames fs p) (probe_at ws i)) (sym same) ends);
+          let ends : Tells (ended (after_frames frames p)) (probe_at ws i) = c.in_ok-tell_all-2.ensures.told.tells i name k ∙ ap ended shows in
+          subst (λ (fs : List Valuation). Tells (ended (after_frames fs p)) (probe_at ws i)) (sym same) ends);
       quiet = record {
         reads = c.in_ok-tell_all-2.ensures.reads.reads ∙ c.in_ok-done.ensures.reads.reads ∙ c.in_ok-tell_all.ensures.reads.reads;
         writes = c.in_ok-tell_all-2.ensures.told.quiet ∙ c.in_ok-done.ensures.watched.quiet ∙ c.in_ok-tell_all.ensures.told.quiet;

@@ -1,4 +1,4 @@
-use Rattle.std.proofs.Common.{◌≡◌, ◌+◌, [], ◌∷◌, ◌++◌, length, slice_index, refl, sym, ap, subst, ◌∙◌, arith, inl, inr}
+use Rattle.std.proofs.Common.{◌≡◌, ◌+◌, [], ◌∷◌, ◌++◌, map, length, slice_index, refl, sym, ap, subst, ◌∙◌, arith, inl, inr}
 use Rattle.std.proofs.lemmas.Result.{err_from_is_err_and}
 use Rattle.std.proofs.lemmas.List.{length_push}
 use Rattle.safl_word.proofs.Lists.{get_pushed}
@@ -12,7 +12,7 @@ use Rattle.safl_probe.specs.Rooms.{HasWidths}
 use Rattle.safl_probe.specs.Asked.{asked}
 use Rattle.safl_probe.proofs.Growing.{strays_none}
 use Rattle.safl_probe.proofs.Stops.{stopped_later}
-use Rattle.safl_probe.proofs.Frames.{fits_more, turn_more}
+use Rattle.safl_probe.proofs.Frames.{fits_more, turn_more, watching_more}
 use Rattle.safl_probe.proofs.Rounds.{cycle_grown, cycle_part, shown_along, shown_none, shown_unasked, shown_more, shown_part, kept_then, kept_same, strays_then}
 use Rattle.safl_probe.proofs.watch.watch.Goals as goal
 
@@ -73,7 +73,8 @@ cycles-preserved g c =
       given = λ h. c.step-done.ensures.given (omega (arith, h));
       shown =
           shown_more (asked c.args.files.now) _ i.frames v _ _ _ _ _ i.shown c.in_ok-show.ensures.shown.tells
-          (cycle_grown c.cycles.cycle v (asked c.args.files.now) _ _ _ c.in_ok-show.ensures.shown.grown) c.in_ok-show.ensures.shown.there;
+          (cycle_grown c.cycles.cycle v (asked c.args.files.now) (map (λ p. (goal.Probe-dyn g (p.vtable, p.value)).state p.value) c.cycles.probes) _ _
+          c.in_ok-show.ensures.shown.grown) c.in_ok-show.ensures.shown.there;
       room = subst (λ (m : Netlist). HasWidths m c.show.new.room.frame.items) (c.step-done.ensures.net ∙ i.net) c.in_ok-show.ensures.room;
       long = c.show.auto.probes ∙ i.long;
       probes = kept_then (asked c.args.files.now) _ _ _ _ i.probes c.in_ok-show.ensures.probes;
@@ -120,7 +121,8 @@ returns-in_err-show-clause-broken g c =
             call = goes_call n (slice_index c.args.sim.now.state) args i.frames c.step-done.new.sim c.step-done.result goes;
             in_time = let a = i.count in let b = c.cycles-test.true in omega (arith, a, b, long);
             off = λ x w below f. elim (get_pushed i.frames v w x f) [ inl h ↦ (i.going args called).not_done x w h | inr h ↦ absurd (let p = h.0 in omega (arith, p, below, long)) ];
-            files = shown_part (asked c.args.files.now) _ i.frames v _ _ _ _ i.shown (cycle_part c.cycles.cycle v (asked c.args.files.now) _ _ _ c.in_err-show.ensures.part.grown);
+            files = shown_part (asked c.args.files.now) _ i.frames v _ _ _ _ i.shown
+                (cycle_part c.cycles.cycle v (asked c.args.files.now) (map (λ p. (goal.Probe-dyn g (p.vtable, p.value)).state p.value) c.cycles.probes) _ _ c.in_err-show.ensures.part.grown);
           };
       stopped = stopped_later c.in_err-show.field-0.0 (asked c.args.files.now) _ _ _ _ _ _ i.probes.probes i.reads c.in_err-show.ensures.part.stopped;
     })
@@ -155,7 +157,8 @@ returns-then-is_some-clause-watched g c =
           record {
             answers = r.0;
             shown = shown_along _ _ (asked c.args.files.now) _ _ _ _ r.1 (shown_more (asked c.args.files.now) _ i.frames v _ _ _ _ _ i.shown c.in_ok-show.ensures.shown.tells
-                (cycle_grown c.cycles.cycle v (asked c.args.files.now) _ _ _ c.in_ok-show.ensures.shown.grown) c.in_ok-show.ensures.shown.there);
+                (cycle_grown c.cycles.cycle v (asked c.args.files.now) (map (λ p. (goal.Probe-dyn g (p.vtable, p.value)).state p.value) c.cycles.probes) _ _
+                c.in_ok-show.ensures.shown.grown) c.in_ok-show.ensures.shown.there);
           };
       quiet = c.in_ok-show.ensures.shown.quiet ∙ i.quiet;
     }
@@ -168,6 +171,7 @@ show-requires-clause-can g c =
     record {
       files = c.requires.ready.files ∙ sym i.long;
       can = λ j name k. record {
+        watching = watching_more i.frames _ _ (c.requires.ready.ready j name k).watching (i.shown.told j name k);
         fits = fits_more c.args.sim.now.net i.frames c.step-done.new.sim.values _ _ (c.requires.ready.ready j name k) (i.shown.told j name k)
             (c.step-done.ensures.full ∙ ap (λ (m : Netlist). length m.signals) (c.step-done.ensures.net ∙ i.net));
         turn = turn_more c.args.sim.now.net i.frames _ _ c.cycles.cycle (c.requires.ready.ready j name k) (i.shown.told j name k) i.count;

@@ -20,7 +20,7 @@ pub arguments-preserved : goal.arguments-preserved
 arguments-preserved c =
     let same : length c.args.args.now ≡ length c.args.widths.now = c.if-args-widths.false in
     let here : c.arguments.i < length c.args.args.now = c.arguments-test.true in
-    subst (λ (l : List Word). ReadSoFar c.args.widths.now (map string_bytes c.args.args.now) l (c.arguments.i + 1)) (sym c.in-Ok-push.ensures.items)
+    subst (λ (l : List Word). ReadSoFar c.args.widths.now (map string_bytes c.args.args.now) l (c.arguments.i + 1)) (sym c.in-Ok.ensures.items)
     (read_more c.args.widths.now (map string_bytes c.args.args.now) c.arguments.words.items c.arguments.i _ c.as_bytes.result.now c.in-Some.word c.arguments.invariant
     (shown_at c.args.widths.now c.arguments.i (omega (arith, here, same)) _ refl)
     (text_at c.args.args.now c.arguments.i c.index-args-i.result c.as_bytes.result.now here c.index-args-i.is c.as_bytes.ensures.value)

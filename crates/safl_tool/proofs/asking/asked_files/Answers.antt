@@ -68,4 +68,5 @@ returns g c =
     record {
       can = no_probe (traces_given c.args.traces) w ks c.probes.i c.is_any.result false le c.probes.invariant.left c.is_any.ensures c.if-is_any.false;
       is = asked_all ks c.probes.i w (asked c.probes.files.items) (asked_by (traces_given c.args.traces) ks) le c.probes.invariant.asked;
+      waiting = c.requires;
     }

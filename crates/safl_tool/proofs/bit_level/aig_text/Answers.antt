@@ -1,4 +1,5 @@
 use Rattle.std.proofs.Common.{subst, sym, refl}
+use Rattle.std.proofs.lemmas.Result.{err_from_is_err_and}
 use Rattle.safl_net.specs.Netlist.{Netlist}
 use Rattle.safl_aig.specs.BitLevel.{IsRefused}
 use Rattle.safl_tool.specs.BitLevel.{RefusesNetlist}
@@ -6,17 +7,19 @@ use Rattle.safl_tool.specs.Refusals.{RefusesBy}
 use Rattle.safl_tool.proofs.Bits.{net_refuses, netlist_refuses}
 use Rattle.safl_tool.proofs.bit_level.aig_text.Goals as goal
 
-pub returns-in-Err-clause-refused : goal.returns-in-Err-clause-refused
-returns-in-Err-clause-refused c = net_refuses c.args.name.now c.args.text.now c.in-Err.refusal c.in-Err.ensures.refused
+pub returns-in_err-ordered-clause-refused : goal.returns-in_err-ordered-clause-refused
+returns-in_err-ordered-clause-refused c =
+    let p = err_from_is_err_and c.from_residual.result c.from_residual.ensures.1 in
+    rw (p.1, p.2) (net_refuses c.args.name.now c.args.text.now c.in_err-ordered.field-0.0 c.in_err-ordered.ensures.refused)
 
-pub returns-in-Ok-aiger_text-clause-gives : goal.returns-in-Ok-aiger_text-clause-gives
-returns-in-Ok-aiger_text-clause-gives c =
-    (c.in-Ok-aiger_text.text.items, (c.in-Ok.ordered.net, c.in-Ok.ensures.runnable, c.in-Ok-aiger_text.ensures.text), refl)
+pub returns-in-Ok-clause-gives : goal.returns-in-Ok-clause-gives
+returns-in-Ok-clause-gives c =
+    (c.in-Ok.text.items, (c.in_ok-ordered.ordered.net, c.in_ok-ordered.ensures.runnable, c.in-Ok.ensures.text), refl)
 
 pub refusal_of_net-requires : goal.refusal_of_net-requires
-refusal_of_net-requires c = subst (λ (n : Netlist). IsRefused n c.in-Err-aiger_text.error) (sym c.net.ensures.net) c.in-Err-aiger_text.ensures.refused
+refusal_of_net-requires c = subst (λ (n : Netlist). IsRefused n c.in-Err.error) (sym c.net.ensures.net) c.in-Err.ensures.refused
 
 pub returns-clause-refused : goal.returns-clause-refused
 returns-clause-refused c =
-    netlist_refuses c.args.name.now c.args.text.now c.in-Ok.ordered.net c.refusal_of_net.result c.in-Ok.ensures.runnable
+    netlist_refuses c.args.name.now c.args.text.now c.in_ok-ordered.ordered.net c.refusal_of_net.result c.in_ok-ordered.ensures.runnable
     (subst (λ (n : Netlist). RefusesBy (RefusesNetlist n) c.refusal_of_net.result) c.net.ensures.net c.refusal_of_net.ensures)

@@ -10,5 +10,5 @@ returns-in-Err-Refused-clause-refused c =
     let e = c.in-Err-Refused in
     inr (refl, e.rule, e.line, subst (λ (x : AigErr). HasThatFault c.args.text.now x) e.field-0-is e.ensures.fault, same_line c.args.name.now _ e.line _ e.rule e.line-is e.rule-is)
 
-pub returns-in-Ok-counts_lines-clause-gives : goal.returns-in-Ok-counts_lines-clause-gives
-returns-in-Ok-counts_lines-clause-gives c = (c.in-Ok.circuit, c.in-Ok.ensures.reads, ap (λ (t : List ℕ). only_prints true t) c.in-Ok-counts_lines.ensures)
+pub returns-clause-gives : goal.returns-clause-gives
+returns-clause-gives c = (c.in-Ok.circuit, c.in-Ok.ensures.reads, ap (λ (t : List ℕ). only_prints true t) c.in_ok-text.ensures)

@@ -1,7 +1,7 @@
 use Rattle.std.proofs.Common.{refl}
 use Rattle.safl_tool.proofs.report.report_lines.Goals as goal
 
-pub returns-in-Ok-report_of-clause-gives : goal.returns-in-Ok-report_of-clause-gives
-returns-in-Ok-report_of-clause-gives c =
-    let p = c.in-Ok.planned.checked in
-    (p.program, p.names, c.in-Ok-report_of.text.items, c.in-Ok.ensures.planned, c.in-Ok-report_of.ensures, refl)
+pub returns-clause-gives : goal.returns-clause-gives
+returns-clause-gives c =
+    let p = c.in_ok-planned.planned.checked in
+    (p.program, p.names, c.in_ok-text.text.items, c.in_ok-planned.ensures.planned, c.in_ok-text.ensures, refl)

@@ -2,6 +2,7 @@ use Rattle.std.proofs.Common.{List, map, sym, subst, inr}
 use Rattle.safl_net.specs.declared.cell.Sig.{Sig}
 use Rattle.safl_net.specs.Netlist.{Netlist}
 use Rattle.safl_net.specs.Making.{numbers, name_at}
+use Rattle.safl_net.proofs.SignalKinds.{set_at}
 use Rattle.safl_order.specs.Refusals.{RefusesOrder}
 use Rattle.safl_order.specs.declared.ordered.OrderErr.{OrderErr}
 use Rattle.safl_vparse.specs.Parsed.{RefusesText}
@@ -31,3 +32,8 @@ returns-in-Err-Loop-clause-refused c =
     (subst (λ (m : Netlist). RefusesBy (HasLine status.VerilogRefused (loop_line c.args.name.now (map (name_at m) (numbers c.in-Err-Loop.wires.items)))) c.refusal_of_loop.result) r.0
     (subst (λ (xs : List Sig). RefusesBy (HasLine status.VerilogRefused (loop_line c.args.name.now (map (name_at c.in-Err-Loop.net) (numbers xs))))
     c.refusal_of_loop.result) c.deref.ensures.value c.refusal_of_loop.ensures))
+
+pub unreachable-requires : goal.unreachable-requires
+unreachable-requires c =
+    let r = subst (λ (e : OrderErr). RefusesOrder c.in-Ok.net e) c.in-Err-Unset.field-0-is c.in-Err-Unset.ensures.refused in
+    r.1.unset (set_at c.in-Ok.net c.in-Err-Unset.field-0-0.0 c.in-Ok.ensures.whole.set r.1.known)

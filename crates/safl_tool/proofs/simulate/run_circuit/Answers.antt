@@ -8,8 +8,8 @@ use Rattle.safl_tool.specs.Running.{GivesOutcome}
 use Rattle.safl_tool.proofs.simulate.run_circuit.Goals as goal
 
 pub returns-clause-answer : goal.returns-clause-answer
-returns-clause-answer c = subst (λ (x : Netlist). IfOk c.run_net.result (GivesOutcome x (map string_bytes c.args.args.now) c.args.limit)) c.in-Ok.ensures c.run_net.ensures.answer
+returns-clause-answer c = subst (λ (x : Netlist). IfOk c.run_net.result (GivesOutcome x (map string_bytes c.args.args.now) c.args.limit)) c.in_ok-ordered.ensures c.run_net.ensures.answer
 
 pub returns-clause-refused : goal.returns-clause-refused
 returns-clause-refused c =
-    subst (λ (x : Netlist). IfErr c.run_net.result (RefusesBy (RefusesArguments (argument_widths x.signals) (map string_bytes c.args.args.now)))) c.in-Ok.ensures c.run_net.ensures.refused
+    subst (λ (x : Netlist). IfErr c.run_net.result (RefusesBy (RefusesArguments (argument_widths x.signals) (map string_bytes c.args.args.now)))) c.in_ok-ordered.ensures c.run_net.ensures.refused

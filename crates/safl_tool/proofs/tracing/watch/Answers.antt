@@ -23,8 +23,11 @@ drive-requires-clause-begins g c = record {
   arguments = subst (λ (l : List Word). AreArguments c.args.run.ready.sim.net l) (sym c.deref.ensures.value) c.requires.can.fit;
 }
 
-pub drive-requires-clause-files : goal.drive-requires-clause-files
-drive-requires-clause-files g c = files_long (λ p. (goal.Probe-dyn g (p.vtable, p.value)).state p.value) c.args.probes.now.items (shown_traces c.args.run.traces.now) c.args.files.now c.requires.asked
+pub drive-requires-clause-probes : goal.drive-requires-clause-probes
+drive-requires-clause-probes g c = record {
+  files = files_long (λ p. (goal.Probe-dyn g (p.vtable, p.value)).state p.value) c.args.probes.now.items (shown_traces c.args.run.traces.now) c.args.files.now c.requires.asked;
+  waiting = λ i name asked. c.requires.asked.waiting i;
+}
 
 -- ---- it was watched
 

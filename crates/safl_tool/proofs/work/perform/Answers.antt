@@ -1,6 +1,6 @@
 use Rattle.std.proofs.Common.{◌≡◌, List, map, refl, sym, ap, subst, ◌∙◌, inl}
-use Rattle.safl_probe.specs.Probing.{ProbeState}
-use Rattle.safl_probe.specs.Asked.{Asked, asked}
+use Rattle.safl_probe.specs.Probing.{ProbeState, IsWaiting}
+use Rattle.safl_probe.specs.Asked.{Asked, asked, probe_at}
 use Rattle.safl_command.specs.Commands.{shown_command}
 use Rattle.safl_command.specs.Traces.{Traces}
 use Rattle.safl_task.specs.Endings.{starved}
@@ -15,6 +15,10 @@ use Rattle.safl_tool.proofs.work.perform.Goals as goal
 -- the files are those that the command asks for
 handed : (t u : Traces) (ps qs : List ProbeState) (asks : Asked) → t ≡ u → qs ≡ ps → AreAskedFor t asks qs → AreAskedFor u asks ps
 handed t u ps qs asks e f a = subst (λ (x : Traces). AreAskedFor x asks ps) e (subst (λ (l : List ProbeState). AreAskedFor t asks l) f a)
+
+pub asked_files-requires : goal.asked_files-requires
+asked_files-requires g c = λ i.
+    subst (λ l. IsWaiting (probe_at (map (λ p. (goal.Probe-dyn g (p.vtable, p.value)).state p.value) l) i)) (sym c.deref.ensures.value) (c.requires i)
 
 pub carry_out-requires : goal.carry_out-requires
 carry_out-requires g c =
