@@ -143,8 +143,7 @@ module _ (s : Shape) where
   pub record IsFlag (name : Text) : Type 0 where
     pub is : IsLong s (45 ∷ 45 ∷ name) name None (flagged name)
 
-  pub record IsValued (name : Text) : Type 0 where
-    pub required : Bool
+  pub record IsValued (required : Bool) (name : Text) : Type 0 where
     pub apart : IsLong s (45 ∷ 45 ∷ name) name None (valued required name)
     pub joined : (v : Text) → IsLong s (codes "--" ++ name ++ codes "=" ++ v) name (Some v) (valued required name)
     pub by_id : arg_by_id s.rules name ≡ Some (valued required name)
@@ -152,7 +151,7 @@ module _ (s : Shape) where
 
   abbrev pub IsDeclared : Text → Option Text → Type 0
   IsDeclared name None = IsFlag name
-  IsDeclared name (Some v) = IsValued name
+  IsDeclared name (Some v) = (required : Bool) × IsValued required name
 
   abbrev pub AreDeclared : List GivenOption → Type 0
   AreDeclared [] = Unit {0}
@@ -163,14 +162,12 @@ module _ (s : Shape) where
   declared_middle (b ∷ bs) after o h = let p : IsDeclared o.name o.value × AreDeclared (bs ++ after) = declared_middle bs after o h.1 in (p.0, (h.0, p.1))
 
   pub record IsPlace (position : ℕ) (id : Text) : Type 0 where
-    pub index : ℕ
-    pub by_index : arg_by_index s.rules position ≡ Some (placed index id)
-    pub by_id : arg_by_id s.rules id ≡ Some (placed index id)
+    pub by_index : arg_by_index s.rules position ≡ Some (placed position id)
+    pub by_id : arg_by_id s.rules id ≡ Some (placed position id)
 
   pub record IsRest (position : ℕ) (id : Text) : Type 0 where
-    pub index : ℕ
-    pub by_index : arg_by_index s.rules position ≡ Some (rest_placed index id)
-    pub by_id : arg_by_id s.rules id ≡ Some (rest_placed index id)
+    pub by_index : arg_by_index s.rules position ≡ Some (rest_placed position id)
+    pub by_id : arg_by_id s.rules id ≡ Some (rest_placed position id)
 
   abbrev pub ArePlaces : ℕ → List Text → Option Text → Type 0
   ArePlaces position [] None = arg_by_index s.rules position ≡ None
@@ -232,7 +229,7 @@ module _ (s : Shape) where
     }
 
     -- a word
-    record WordStep (after_hyphens : Bool) (word : Text) (os : List GivenOption) (places : List Text) (rest : Option Text) (ws : List Text) : Type 0 where
+    pub record WordStep (after_hyphens : Bool) (word : Text) (os : List GivenOption) (places : List Text) (rest : Option Text) (ws : List Text) : Type 0 where
       pub a : Rule
       pub pending_then : Option (Text × List Text)
       pub waiting_then : Waiting
@@ -246,14 +243,16 @@ module _ (s : Shape) where
           → IsRead s (at rows pending waiting position after_hyphens) (word ∷ line) end
       pub words_then : (id : Text) → (if bytes_eq a.id id then word ∷ words_of id places_then rest ws else words_of id places_then rest ws) ≡ words_of id places rest (word ∷ ws)
       pub other_then : (id : Text) → is_place id places rest ≡ false → (bytes_eq a.id id ≡ false) × (is_place id places_then rest ≡ false)
+      pub taken_back : (us : List Text) → AreTaken places_then rest us → AreTaken places rest (word ∷ us)
+      pub fewer : (id : Text) → among id places_then ≡ true → among id places ≡ true
 
-    word_step : (after_hyphens : Bool) (word : Text) → IsPlaced word after_hyphens
+    pub word_step : (after_hyphens : Bool) (word : Text) → IsPlaced word after_hyphens
         → (os : List GivenOption) (places : List Text) (rest : Option Text) (ws : List Text) → Ready sum position os places rest → AreTaken places rest (word ∷ ws)
         → WordStep after_hyphens word os places rest ws
     word_step after_hyphens word plain_so os [] None ws ready taken = absurd taken
     word_step after_hyphens word plain_so os [] (Some r) ws ready taken =
         let p : IsRest position r = ready.are_places in
-        let a : Rule = rest_placed p.index r in
+        let a : Rule = rest_placed position r in
         record {
           a = a;
           pending_then = Some (r, word ∷ []);
@@ -261,7 +260,7 @@ module _ (s : Shape) where
           position_then = position;
           places_then = [];
           open_then = tt;
-          calm_then = calm_pending s sum a (word ∷ []) word p.by_id (adds_rest s.args_override_self r word sum p.index);
+          calm_then = calm_pending s sum a (word ∷ []) word p.by_id (adds_rest s.args_override_self r word sum position);
           ready_then = record {
             declared = ready.declared;
             are_places = p;
@@ -270,13 +269,15 @@ module _ (s : Shape) where
             other = ready.other;
           };
           taken_then = taken;
-          goes = λ line end k. rest_read s rows pending waiting position sum open_so calm line end word after_hyphens p.index r plain_so p.by_index k;
+          goes = λ line end k. rest_read s rows pending waiting position sum open_so calm line end word after_hyphens position r plain_so p.by_index k;
           words_then = λ id. refl;
           other_then = λ id h. (h, h);
+          taken_back = λ us h. h;
+          fewer = λ id h. h;
         }
     word_step after_hyphens word plain_so os (n ∷ ns) rest ws ready taken =
         let p : IsPlace position n = ready.are_places.0 in
-        let a : Rule = placed p.index n in
+        let a : Rule = placed position n in
         let w : Without n (ids os (n ∷ ns)) (ids os ns) = place_gone os n ns in
         let there : among n (ids os (n ∷ ns)) ≡ true = self_among n (ids os (n ∷ ns)) (ids os ns) w in
         record {
@@ -286,7 +287,7 @@ module _ (s : Shape) where
           position_then = min (position + 1) usize_max;
           places_then = ns;
           open_then = tt;
-          calm_then = calm_pending s sum a (word ∷ []) word p.by_id (adds_placed s.args_override_self n word sum p.index (ready.new n there));
+          calm_then = calm_pending s sum a (word ∷ []) word p.by_id (adds_placed s.args_override_self n word sum position (ready.new n there));
           ready_then = record {
             declared = ready.declared;
             are_places = ready.are_places.1;
@@ -296,9 +297,11 @@ module _ (s : Shape) where
             other = not_among_still n (ids os (n ∷ ns)) (ids os ns) w rest ready.other;
           };
           taken_then = taken;
-          goes = λ line end k. placed_read s rows pending waiting position sum open_so calm line end word after_hyphens p.index n plain_so p.by_index k;
+          goes = λ line end k. placed_read s rows pending waiting position sum open_so calm line end word after_hyphens position n plain_so p.by_index k;
           words_then = λ id. refl;
           other_then = λ id h. or_parts (bytes_eq n id) (is_place id ns rest) h;
+          taken_back = λ us h. h;
+          fewer = λ id h. ap (λ (b : Bool). bytes_eq n id || b) h ∙ or-true (bytes_eq n id);
         }
 
     after_word : (after_hyphens : Bool) (word : Text) (line : List Text) (os : List GivenOption) (places : List Text) (rest : Option Text) (ws : List Text)
@@ -317,7 +320,7 @@ module _ (s : Shape) where
     }
 
     -- an option
-    record OptionStep (name value : Text) (written : List Text) : Type 0 where
+    pub record OptionStep (name value : Text) (written : List Text) : Type 0 where
       pub a : Rule
       pub is : a.id ≡ name
       pub rows_then : List Row
@@ -326,7 +329,7 @@ module _ (s : Shape) where
       pub goes : (line : List Text) (end : Walk) → IsRead s (at rows_then pending_then idle position false) line end
           → IsRead s (at rows pending waiting position false) (written ++ line) end
 
-    option_step : (name : Text) (value : Option Text) (written : List Text) → IsDeclared name value → IsWritten name value written → has_row name sum ≡ false
+    pub option_step : (name : Text) (value : Option Text) (written : List Text) → IsDeclared name value → IsWritten name value written → has_row name sum ≡ false
         → OptionStep name (unwrap_or value (codes "true")) written
     option_step name None written d e h =
         let adds : Adds s.args_override_self (flagged name) [] (codes "true") sum = adds_flagged s.args_override_self name [] sum h in
@@ -340,21 +343,21 @@ module _ (s : Shape) where
               (flag_read s rows pending waiting position sum open_so calm line end (45 ∷ 45 ∷ name) name d.is adds k);
         }
     option_step name (Some v) written d (inl p) h =
-        let a : Rule = valued d.required name in
-        let adds : Adds s.args_override_self a (v ∷ []) v sum = adds_valued s.args_override_self name v sum d.required h in
+        let a : Rule = valued d.0 name in
+        let adds : Adds s.args_override_self a (v ∷ []) v sum = adds_valued s.args_override_self name v sum d.0 h in
         record {
           a = a;
           is = refl;
           rows_then = sum;
           pending_then = Some (name, v ∷ []);
-          calm_then = calm_pending s sum a (v ∷ []) v d.by_id adds;
+          calm_then = calm_pending s sum a (v ∷ []) v d.1.by_id adds;
           goes = λ line end k. subst (λ (x : List Text). IsRead s (at rows pending waiting position false) (x ++ line) end) (sym p.1)
-              (waits_read s rows pending waiting position sum open_so calm (v ∷ line) end (45 ∷ 45 ∷ name) name d.required d.apart
-              (value_read s sum position name v d.required (unhyphened_no_flag v p.0) d.by_id d.self line end k));
+              (waits_read s rows pending waiting position sum open_so calm (v ∷ line) end (45 ∷ 45 ∷ name) name d.0 d.1.apart
+              (value_read s sum position name v d.0 (unhyphened_no_flag v p.0) d.1.by_id d.1.self line end k));
         }
     option_step name (Some v) written d (inr e) h =
-        let a : Rule = valued d.required name in
-        let adds : Adds s.args_override_self a (v ∷ []) v sum = adds_valued s.args_override_self name v sum d.required h in
+        let a : Rule = valued d.0 name in
+        let adds : Adds s.args_override_self a (v ∷ []) v sum = adds_valued s.args_override_self name v sum d.0 h in
         record {
           a = a;
           is = refl;
@@ -362,7 +365,7 @@ module _ (s : Shape) where
           pending_then = None;
           calm_then = calm_used s (more a v sum) (more a v sum) refl;
           goes = λ line end k. subst (λ (x : List Text). IsRead s (at rows pending waiting position false) (x ++ line) end) (sym e)
-              (joined_read s rows pending waiting position sum open_so calm line end (codes "--" ++ name ++ codes "=" ++ v) name v d.required (d.joined v) adds k);
+              (joined_read s rows pending waiting position sum open_so calm line end (codes "--" ++ name ++ codes "=" ++ v) name v d.0 (d.1.joined v) adds k);
         }
 
     after_option : (before after : List GivenOption) (o : GivenOption) (written line : List Text) (places : List Text) (rest : Option Text) (ws : List Text)
@@ -436,7 +439,7 @@ module _ (s : Shape) where
       record {
         uses = k.uses;
         end = k.end;
-        read = hyphens_read s rows pending waiting position sum open_so calm words k.end k.read;
+        read = hyphens_read s rows pending waiting position words k.end k.read;
         calm = k.calm;
         words = k.words;
         options = k.options;

@@ -7,13 +7,12 @@ pub mod Rows
 pub mod Uses
 pub mod Walking
 pub mod Arranging
-pub mod Said
+pub mod Found
+pub mod FormLines
 pub mod SaidLines
 pub mod SaidWords
 pub mod Looks
 pub mod Refused
 pub mod FormValues
 pub mod Parting
-pub mod Finding
-pub mod Exact
-pub mod ExactForms
+pub mod ExactLines

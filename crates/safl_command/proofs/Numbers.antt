@@ -1,12 +1,12 @@
 -- Decimal words are no flags, and say their number.
-use Rattle.std.proofs.Common.{◌≡◌, ℕ, List, [], ◌∷◌, length, Bool, true, Option, Some, None, ◌&&◌, ap, subst}
+use Rattle.std.proofs.Common.{◌≡◌, ℕ, List, [], ◌∷◌, length, Bool, true, Option, Some, None, ◌&&◌, subst}
 use Rattle.std.specs.Prelude.{nat_le, nat_lt, if◌then◌else◌, ◌^◌}
 use Rattle.std.specs.List.{list_all}
 use Rattle.std.specs.Cmp.{first_so, second_so}
 use Rattle.safl_word.specs.Numerals.{value, is_digit}
 use Rattle.safl_command.specs.Limits.{cycles_max}
 use Rattle.safl_word.specs.Limits.{generated_max}
-use Rattle.safl_command.specs.Values.{is_number, is_within, number_of, number_within}
+use Rattle.safl_command.specs.Values.{is_number, is_within}
 use Rattle.safl_command.specs.Arranged.{IsUnhyphened}
 use Rattle.safl_command.specs.Laws.{IsNumber, IsLimit, IsCount}
 
@@ -33,12 +33,3 @@ limit_unhyphened word h = number_unhyphened word (within_number cycles_max word 
 
 pub count_unhyphened : (word : List ℕ) → IsCount word → IsUnhyphened word
 count_unhyphened word h = number_unhyphened word (within_number generated_max word h)
-
-pub number_said : (word : List ℕ) → IsNumber word → number_of word ≡ Some (value 10 word)
-number_said word h = ap (λ (b : Bool). number_if b word) h
-
-pub limit_said : (word : List ℕ) → IsLimit word → number_within cycles_max word ≡ Some (value 10 word)
-limit_said word h = ap (λ (b : Bool). number_if b word) h
-
-pub count_said : (word : List ℕ) → IsCount word → number_within generated_max word ≡ Some (value 10 word)
-count_said word h = ap (λ (b : Bool). number_if b word) h

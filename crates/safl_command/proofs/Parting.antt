@@ -1,25 +1,25 @@
 -- A line that a command reads without a fault is arranged of words and options of the command's form.
-use Rattle.std.proofs.Common.{◌≡◌, ◌∙◌, ℕ, ◌+◌, min, List, [], ◌∷◌, ◌++◌, Bool, true, false, Option, Some, None, refl, sym, ap, subst, inl, inr, codes, not, ◌||◌, append_assoc}
+use Rattle.std.proofs.Common.{◌≡◌, ◌∙◌, ℕ, List, [], ◌∷◌, ◌++◌, Bool, true, false, Option, Some, None, refl, sym, ap, subst, inl, inr, codes, ◌||◌, append_assoc}
 use Rattle.std.specs.Str.{bytes_eq, IsUtf8}
 use Rattle.std.specs.Option.{option_map_or}
-use Rattle.std.proofs.lemmas.Bool.{false≢true, and_parts, not-true, or_parts}
-use Rattle.std.proofs.Math.Bool.{or-true}
+use Rattle.std.proofs.lemmas.Bool.{false≢true, or_parts}
 use Rattle.clap.specs.Words.{Shape, Row, Rule, Text}
-use Rattle.clap.specs.Lexer.{usize_max}
+use Rattle.clap.specs.Kinds.{or_else}
 use Rattle.clap.specs.Simple.{filled, help_rule}
-use Rattle.clap.specs.Walk.{Held, Walk, Waiting, Step, idle, option, positional, value, arg_by_short, arg_by_index, has_row, arg_by_long, settled}
+use Rattle.clap.specs.Walk.{Held, Walk, Waiting, Step, idle, option, arg_by_short, has_row, arg_by_long, settled}
 use Rattle.clap.specs.Faults.{turn_fault, step_fault, settle_fault, stray_fault, positional_fault, use_fault, long_fault}
 use Rattle.safl_command.specs.Arranged.{GivenOption, IsUnhyphened, IsWritten, Arranged, AreTexts, ends, then_word, then_option, then_hyphens}
 use Rattle.safl_command.specs.Forms.{Argument}
 use Rattle.safl_command.proofs.Rows.{more, has_more, same_text, self_text}
-use Rattle.safl_command.proofs.Uses.{valued, flagged, placed, rest_placed, adds_valued, adds_flagged, adds_placed, adds_rest, repeated}
+use Rattle.safl_command.proofs.Uses.{valued, flagged, adds_valued, repeated}
 use Rattle.safl_command.proofs.Stepping.{read_none, unhyphened_no_flag}
-use Rattle.safl_command.proofs.Walking.{at, held, IsOpen, IsLong, Calm, calm_pending, calm_used, placed_read}
-use Rattle.safl_command.proofs.Walking.{rest_read, hyphens_read, waits_read, value_read, joined_read, flag_read, word_quiet, long_quiet, met}
-use Rattle.safl_command.proofs.Arranging.{among, are_distinct, named, AreTaken, IsFlag, IsValued, ArePlaces, still_new}
+use Rattle.safl_command.proofs.Walking.{at, held, IsOpen, IsPlaced, IsLong, Calm, calm_pending, calm_used}
+use Rattle.safl_command.proofs.Walking.{hyphens_read, waits_read, value_read, word_quiet, long_quiet, met}
+use Rattle.safl_command.proofs.Arranging.{among, are_distinct, named, given_value, AreTaken, IsFlag, IsValued, IsDeclared, ArePlaces, IsNotAmong, Ready, still_new}
+use Rattle.safl_command.proofs.Arranging.{WordStep, word_step, OptionStep, option_step}
 use Rattle.safl_command.proofs.Looks.{Looks, plain, hyphens, long, short, looks, Cut, whole, cut, cut_of}
 use Rattle.safl_command.proofs.Refused.{IsQuiet, first_quiet, quiet_after, both_none, not_none, long_none}
-use Rattle.safl_command.proofs.Refused.{short_none, help_refused, open_settles, trailing_settles, stray_refused, hyphens_walked, long_settles}
+use Rattle.safl_command.proofs.Refused.{short_none, help_refused, open_settles, trailing_settles, stray_refused, long_settles}
 use Rattle.safl_command.proofs.FormValues.{rules_from, is_option, Values, options_of, no_values, no_options, IsOptionOf, option_is, Inserted}
 use Rattle.safl_command.proofs.FormValues.{insert, AreKnown, LongView, unknown, helps, takes, switches, long_view, shorts}
 
@@ -59,35 +59,21 @@ module _ (s : Shape) (args : List Argument) (rules_are : s.rules ≡ rules_from 
     pub fresh : (id : Text) → named id (options_of args values) ≡ true → has_row id sum ≡ false
     pub taken : AreTaken places rest words
 
-  -- the places of the words to come
+  -- the places of the words to come, which are not options
   pub record ArePlaced (sum : List Row) (position : ℕ) (places : List Text) (rest : Option Text) : Type 0 where
-    pub are : ArePlaces s position places rest
-    pub distinct : are_distinct places ≡ true
-    pub new : (id : Text) → among id places ≡ true → has_row id sum ≡ false
+    pub ready : Ready s sum position [] places rest
     pub apart : (id : Text) → among id places ≡ true → is_option id args ≡ false
-
-  place_filled : (sum : List Row) (position : ℕ) (n : Text) (ns : List Text) (rest : Option Text) (index : ℕ) (word : Text) → ArePlaced sum position (n ∷ ns) rest
-      → ArePlaced (more (placed index n) word sum) (min (position + 1) usize_max) ns rest
-  place_filled sum position n ns rest index word p =
-      let d : (not (among n ns) ≡ true) × (are_distinct ns ≡ true) = and_parts (not (among n ns)) (are_distinct ns) p.distinct in
-      let F : (id : Text) → among id ns ≡ true → among id (n ∷ ns) ≡ true = λ id h. ap (λ (b : Bool). bytes_eq n id || b) h ∙ or-true (bytes_eq n id) in
-      record {
-        are = p.are.1;
-        distinct = d.1;
-        new = still_new s n ns (placed index n) word sum refl (not-true (among n ns) d.0) (λ id h. p.new id (F id h));
-        apart = λ id h. p.apart id (F id h);
-      }
-
-  rest_filled : (sum : List Row) (position : ℕ) (r : Text) (index : ℕ) (word : Text) → ArePlaced sum position [] (Some r)
-      → ArePlaced (more (rest_placed index r) word sum) position [] (Some r)
-  rest_filled sum position r index word p = record { are = p.are; distinct = refl; new = λ id h. absurd (false≢true h); apart = λ id h. absurd (false≢true h) }
 
   option_filled : (sum : List Row) (position : ℕ) (places : List Text) (rest : Option Text) (o : GivenOption) (a : Rule) (v : Text) → IsOptionOf args o → a.id ≡ o.name
       → ArePlaced sum position places rest → ArePlaced (more a v sum) position places rest
   option_filled sum position places rest o a v is_of is p = record {
-    are = p.are;
-    distinct = p.distinct;
-    new = still_new s o.name places a v sum is (go (among o.name places) refl) p.new;
+    ready = record {
+      declared = tt;
+      are_places = p.ready.are_places;
+      distinct = p.ready.distinct;
+      new = still_new s o.name places a v sum is (go (among o.name places) refl) p.ready.new;
+      other = p.ready.other;
+    };
     apart = p.apart;
   }
     where
@@ -97,30 +83,10 @@ module _ (s : Shape) (args : List Argument) (rules_are : s.rules ≡ rules_from 
 
   -- ---- what a word adds
 
-  with_word : (word : Text) (line : List Text) (sum : List Row) (n : Text) (ns : List Text) (rest : Option Text) (index : ℕ) → IsUnhyphened word
-      → Parts line (more (placed index n) word sum) ns rest → Parts (word ∷ line) sum (n ∷ ns) rest
-  with_word word line sum n ns rest index u p = record {
-    words = word ∷ p.words;
-    values = p.values;
-    arranged = then_word word p.words (options_of args p.values) line u p.arranged;
-    fresh = λ id h. (or_parts (bytes_eq n id) (has_row id sum) (sym (has_more id (placed index n) word sum) ∙ p.fresh id h)).1;
-    taken = p.taken;
-  }
-
-  with_rest : (word : Text) (line : List Text) (sum : List Row) (r : Text) (index : ℕ) → IsUnhyphened word
-      → Parts line (more (rest_placed index r) word sum) [] (Some r) → Parts (word ∷ line) sum [] (Some r)
-  with_rest word line sum r index u p = record {
-    words = word ∷ p.words;
-    values = p.values;
-    arranged = then_word word p.words (options_of args p.values) line u p.arranged;
-    fresh = λ id h. (or_parts (bytes_eq r id) (has_row id sum) (sym (has_more id (rest_placed index r) word sum) ∙ p.fresh id h)).1;
-    taken = p.taken;
-  }
-
   with_option : (o : GivenOption) (written line : List Text) (sum : List Row) (places : List Text) (rest : Option Text) (a : Rule) (v : Text) → IsOptionOf args o
       → IsWritten o.name o.value written → has_row o.name sum ≡ false → a.id ≡ o.name → Parts line (more a v sum) places rest → Parts (written ++ line) sum places rest
   with_option o written line sum places rest a v is_of is_written new is p =
-      let i : Inserted (Values args) (options_of args) p.values o = insert args p.values o is_of (unnamed (named o.name (options_of args p.values)) refl) in
+      let i : Inserted (Values args) (options_of args) (options_of args p.values) o = insert args p.values o is_of (unnamed (named o.name (options_of args p.values)) refl) in
       record {
         words = p.words;
         values = i.values_then;
@@ -144,7 +110,7 @@ module _ (s : Shape) (args : List Argument) (rules_are : s.rules ≡ rules_from 
       apart id there true e = absurd (false≢true (sym new ∙ ap (λ (x : Text). has_row x sum) (same_text o.name id e) ∙ there))
       apart id there false e = refl
 
-      still : (i : Inserted (Values args) (options_of args) p.values o) → (id : Text) → named id (options_of args i.values_then) ≡ true → (b : Bool) → has_row id sum ≡ b → b ≡ false
+      still : (i : Inserted (Values args) (options_of args) (options_of args p.values) o) → (id : Text) → named id (options_of args i.values_then) ≡ true → (b : Bool) → has_row id sum ≡ b → b ≡ false
       still i id h false e = refl
       still i id h true e =
           let none : named id (i.before ++ i.after) ≡ false = ap (λ (l : List GivenOption). named id l) (sym i.is) ∙ other id e (named id (options_of args p.values)) refl in
@@ -162,37 +128,39 @@ module _ (s : Shape) (args : List Argument) (rules_are : s.rules ≡ rules_from 
 
   -- ---- the walk
 
-  -- a word that goes to no place has a fault
-  no_place : (rows : List Row) (pending : Option (Text × List Text)) (position : ℕ) → arg_by_index s.rules position ≡ None
-      → step_fault s position (held rows pending) value ≡ [] → ⊥
-  no_place rows pending position none e =
-      stray_refused s s.is_leaf (ap (λ (o : Option Rule). option_map_or (λ a. positional_fault s.rules s.args_override_self a (held rows pending)) o (stray_fault s)) (sym none) ∙ e)
+  module _ (rows : List Row) (pending : Option (Text × List Text)) (waiting : Waiting) (position : ℕ) (sum : List Row) (open_so : IsOpen waiting) (calm : Calm s (held rows pending) sum)
+      (is_trailing : Bool) (word : Text) (plain_so : IsPlaced word is_trailing) (line : List Text) (q : IsQuiet s (at rows pending waiting position is_trailing) (word ∷ line)) where
+    -- a word that goes to no place has a fault
+    has_place : (places : List Text) (rest : Option Text) → ArePlaces s position places rest → AreTaken places rest (word ∷ [])
+    has_place [] None are =
+        absurd (stray_refused s s.is_leaf (ap (λ (o : Option Rule). option_map_or (λ a. positional_fault s.rules s.args_override_self a (held rows pending)) o (stray_fault s)) (sym are)
+        ∙ sym (word_quiet s rows pending waiting position open_so word is_trailing plain_so)
+        ∙ first_quiet s (at rows pending waiting position is_trailing) word line q))
+    has_place [] (Some r) are = tt
+    has_place (n ∷ ns) rest are = tt
+
+    step_of : (places : List Text) (rest : Option Text) → ArePlaced sum position places rest → WordStep s rows pending waiting position sum open_so calm is_trailing word [] places rest []
+    step_of places rest p =
+        word_step s rows pending waiting position sum open_so calm is_trailing word plain_so [] places rest [] p.ready (has_place places rest p.ready.are_places)
+
+    -- the line after it, and its places
+    module _ (places : List Text) (rest : Option Text) (p : ArePlaced sum position places rest) (t : WordStep s rows pending waiting position sum open_so calm is_trailing word [] places rest []) where
+      quiet_then : IsQuiet s (at sum t.pending_then t.waiting_then t.position_then is_trailing) line
+      quiet_then =
+          let w : Walk = at sum t.pending_then t.waiting_then t.position_then is_trailing in
+          quiet_after s (word ∷ []) line (at rows pending waiting position is_trailing) w (t.goes [] w (read_none s w)) q
+
+      placed_then : ArePlaced (more t.a word sum) t.position_then t.places_then rest
+      placed_then = record { ready = t.ready_then; apart = λ id h. p.apart id (t.fewer id h) }
 
   -- the words after `--`
   trailing_taken : (line : List Text) (rows : List Row) (pending : Option (Text × List Text)) (waiting : Waiting) (position : ℕ) (sum : List Row) (places : List Text) (rest : Option Text)
       → IsOpen waiting → Calm s (held rows pending) sum → ArePlaced sum position places rest → IsQuiet s (at rows pending waiting position true) line → AreTaken places rest line
   trailing_taken [] rows pending waiting position sum places rest open_so calm p q = tt
-  trailing_taken (word ∷ line) rows pending waiting position sum [] None open_so calm p q =
-      absurd (no_place rows pending position p.are (sym (word_quiet s rows pending waiting position sum open_so calm line (at rows pending waiting position true) word true tt)
-      ∙ first_quiet s (at rows pending waiting position true) word line q))
-  trailing_taken (word ∷ line) rows pending waiting position sum [] (Some r) open_so calm p q =
-      let a : Rule = rest_placed p.are.index r in
-      let w : Walk = at sum (Some (r, word ∷ [])) positional position true in
-      trailing_taken line sum (Some (r, word ∷ [])) positional position (more a word sum) [] (Some r) tt
-      (calm_pending s sum a (word ∷ []) word p.are.by_id (adds_rest s.args_override_self r word sum p.are.index))
-      (rest_filled sum position r p.are.index word p)
-      (quiet_after s (word ∷ []) line (at rows pending waiting position true) w
-      (rest_read s rows pending waiting position sum open_so calm [] w word true p.are.index r tt p.are.by_index (read_none s w)) q)
-  trailing_taken (word ∷ line) rows pending waiting position sum (n ∷ ns) rest open_so calm p q =
-      let index : ℕ = p.are.0.index in
-      let a : Rule = placed index n in
-      let there : among n (n ∷ ns) ≡ true = ap (λ (b : Bool). b || among n ns) (self_text n) in
-      let w : Walk = at sum (Some (n, word ∷ [])) idle (min (position + 1) usize_max) true in
-      trailing_taken line sum (Some (n, word ∷ [])) idle (min (position + 1) usize_max) (more a word sum) ns rest tt
-      (calm_pending s sum a (word ∷ []) word p.are.0.by_id (adds_placed s.args_override_self n word sum index (p.new n there)))
-      (place_filled sum position n ns rest index word p)
-      (quiet_after s (word ∷ []) line (at rows pending waiting position true) w
-      (placed_read s rows pending waiting position sum open_so calm [] w word true index n tt p.are.0.by_index (read_none s w)) q)
+  trailing_taken (word ∷ line) rows pending waiting position sum places rest open_so calm p q =
+      let t : WordStep s rows pending waiting position sum open_so calm true word [] places rest [] = step_of rows pending waiting position sum open_so calm true word tt line q places rest p in
+      t.taken_back line (trailing_taken line sum t.pending_then t.waiting_then t.position_then (more t.a word sum) t.places_then rest t.open_then t.calm_then
+      (placed_then rows pending waiting position sum open_so calm true word tt line q places rest p t) (quiet_then rows pending waiting position sum open_so calm true word tt line q places rest p t))
 
   -- a line that is read where nothing waits for a value
   abbrev IsParted : List Text → Type 0
@@ -209,13 +177,13 @@ module _ (s : Shape) (args : List Argument) (rules_are : s.rules ≡ rules_from 
     pub parts : Parts after (more a v sum) places rest
 
   abbrev IsValuedFirst : List Text → Type 0
-  IsValuedFirst line = (name : Text) (d : IsValued s name) → ((v : Text) → IsOptionOf args (record { name = name; value = Some v }))
+  IsValuedFirst line = (name : Text) (required : Bool) (d : IsValued s required name) → ((v : Text) → IsOptionOf args (record { name = name; value = Some v }))
       → (position : ℕ) (sum : List Row) (places : List Text) (rest : Option Text) → ArePlaced sum position places rest
-      → IsQuiet s (at sum (Some (name, [])) (option name) position false) line → Valued line name (valued d.required name) sum places rest
+      → IsQuiet s (at sum (Some (name, [])) (option name) position false) line → Valued line name (valued required name) sum places rest
 
   -- an option without a value cannot be used
-  no_value_yet : (name : Text) (d : IsValued s name) (sum : List Row) → settle_fault s.rules s.args_override_self (held sum (Some (name, []))) ≡ [] → ⊥
-  no_value_yet name d sum e =
+  no_value_yet : (name : Text) (required : Bool) (d : IsValued s required name) (sum : List Row) → settle_fault s.rules s.args_override_self (held sum (Some (name, []))) ≡ [] → ⊥
+  no_value_yet name required d sum e =
       not_none _ _ (ap (λ (o : Option Rule). option_map_or (λ a. use_fault s.args_override_self a [] sum) o []) (sym d.by_id) ∙ e)
 
   -- ---- one word of a line
@@ -227,29 +195,21 @@ module _ (s : Shape) (args : List Argument) (rules_are : s.rules ≡ rules_from 
 
     plain_parted : IsParted line → (word : Text) → IsUnhyphened word → (places : List Text) (rest : Option Text) → ArePlaced sum position places rest
         → IsQuiet s Now (word ∷ line) → Parts (word ∷ line) sum places rest
-    plain_parted ih word u [] None p q =
-        absurd (no_place rows pending position p.are (sym (word_quiet s rows pending waiting position sum open_so calm line Now word false (unhyphened_no_flag word u))
-        ∙ first_quiet s Now word line q))
-    plain_parted ih word u [] (Some r) p q =
-        let a : Rule = rest_placed p.are.index r in
-        let w : Walk = at sum (Some (r, word ∷ [])) positional position false in
-        with_rest word line sum r p.are.index u
-        (ih sum (Some (r, word ∷ [])) positional position (more a word sum) [] (Some r) tt
-        (calm_pending s sum a (word ∷ []) word p.are.by_id (adds_rest s.args_override_self r word sum p.are.index))
-        (rest_filled sum position r p.are.index word p)
-        (quiet_after s (word ∷ []) line Now w
-        (rest_read s rows pending waiting position sum open_so calm [] w word false p.are.index r (unhyphened_no_flag word u) p.are.by_index (read_none s w)) q))
-    plain_parted ih word u (n ∷ ns) rest p q =
-        let index : ℕ = p.are.0.index in
-        let a : Rule = placed index n in
-        let there : among n (n ∷ ns) ≡ true = ap (λ (b : Bool). b || among n ns) (self_text n) in
-        let w : Walk = at sum (Some (n, word ∷ [])) idle (min (position + 1) usize_max) false in
-        with_word word line sum n ns rest index u
-        (ih sum (Some (n, word ∷ [])) idle (min (position + 1) usize_max) (more a word sum) ns rest tt
-        (calm_pending s sum a (word ∷ []) word p.are.0.by_id (adds_placed s.args_override_self n word sum index (p.new n there)))
-        (place_filled sum position n ns rest index word p)
-        (quiet_after s (word ∷ []) line Now w
-        (placed_read s rows pending waiting position sum open_so calm [] w word false index n (unhyphened_no_flag word u) p.are.0.by_index (read_none s w)) q))
+    plain_parted ih word u places rest p q =
+        let no_flag : IsPlaced word false = unhyphened_no_flag word u in
+        let t : WordStep s rows pending waiting position sum open_so calm false word [] places rest [] =
+        step_of rows pending waiting position sum open_so calm false word no_flag line q places rest p in
+        let k : Parts line (more t.a word sum) t.places_then rest =
+        ih sum t.pending_then t.waiting_then t.position_then (more t.a word sum) t.places_then rest t.open_then t.calm_then
+        (placed_then rows pending waiting position sum open_so calm false word no_flag line q places rest p t)
+        (quiet_then rows pending waiting position sum open_so calm false word no_flag line q places rest p t) in
+        record {
+          words = word ∷ k.words;
+          values = k.values;
+          arranged = then_word word k.words (options_of args k.values) line u k.arranged;
+          fresh = λ id h. (or_parts (bytes_eq t.a.id id) (has_row id sum) (sym (has_more id t.a word sum) ∙ k.fresh id h)).1;
+          taken = t.taken_back k.words k.taken;
+        }
 
     -- the use of an option has no fault
     use_none : (word name : Text) (v : Option Text) (a : Rule) → IsLong s word name v a → IsQuiet s Now (word ∷ line)
@@ -260,52 +220,47 @@ module _ (s : Shape) (args : List Argument) (rules_are : s.rules ≡ rules_from 
         (sym (long_quiet s rows pending waiting position sum open_so calm line Now word name v a l) ∙ first_quiet s Now word line q)).0
 
     module _ (places : List Text) (rest : Option Text) (p : ArePlaced sum position places rest) where
+      -- an option that is used by one word
+      used_parted : IsParted line → (word : Text) (o : GivenOption) → IsDeclared s o.name o.value → IsWritten o.name o.value (word ∷ []) → IsOptionOf args o
+          → has_row o.name sum ≡ false → IsQuiet s Now (word ∷ line) → Parts (word ∷ line) sum places rest
+      used_parted ih word o d w is_of new q =
+          let v : Text = given_value o in
+          let t : OptionStep s rows pending waiting position sum open_so calm o.name v (word ∷ []) = option_step s rows pending waiting position sum open_so calm o.name o.value (word ∷ []) d w new in
+          let then : Walk = at t.rows_then t.pending_then idle position false in
+          with_option o (word ∷ []) line sum places rest t.a v is_of w new t.is
+          (ih t.rows_then t.pending_then idle position (more t.a v sum) places rest tt t.calm_then (option_filled sum position places rest o t.a v is_of t.is p)
+          (quiet_after s (word ∷ []) line Now then (t.goes [] then (read_none s then)) q))
+
+      -- its name is new
+      new_name : (word name : Text) (v : Option Text) (a : Rule) (vs : List Text) → IsLong s word name v a → IsQuiet s Now (word ∷ line)
+          → long_fault s.rules s.args_override_self (Some a) v (held rows pending)
+          ≡ or_else (settle_fault s.rules s.args_override_self (held rows pending)) (use_fault s.args_override_self a vs (settled s.rules (held rows pending)).rows)
+          → use_fault s.args_override_self a vs sum ≡ repeated s.args_override_self (has_row name sum) → has_row name sum ≡ false
+      new_name word name v a vs l q comes uses =
+          let again : Bool = s.args_override_self in
+          first_use again (has_row name sum) once (sym uses ∙ ap (λ (rs : List Row). use_fault again a vs rs) (sym calm.rows_are)
+          ∙ (both_none (settle_fault s.rules again (held rows pending)) (use_fault again a vs (settled s.rules (held rows pending)).rows) (sym comes ∙ use_none word name v a l q)).1)
+
       flag_parted : IsParted line → (name : Text) → IsFlag s name → IsOptionOf args (record { name = name; value = None })
           → IsQuiet s Now ((45 ∷ (45 ∷ name)) ∷ line) → Parts ((45 ∷ (45 ∷ name)) ∷ line) sum places rest
       flag_parted ih name d is_of q =
-          let o : GivenOption = record { name = name; value = None } in
-          let word : Text = 45 ∷ (45 ∷ name) in
-          let a : Rule = flagged name in
-          let again : Bool = s.args_override_self in
-          let f : use_fault again a [] sum ≡ [] =
-          ap (λ (rs : List Row). use_fault again a [] rs) (sym calm.rows_are)
-          ∙ (both_none (settle_fault s.rules again (held rows pending)) (use_fault again a [] (settled s.rules (held rows pending)).rows) (use_none word name None a d.is q)).1 in
-          let new : has_row name sum ≡ false = first_use again (has_row name sum) once f in
-          let w : Walk = at (more a (codes "true") sum) None idle position false in
-          with_option o (word ∷ []) line sum places rest a (codes "true") is_of refl new refl
-          (ih (more a (codes "true") sum) None idle position (more a (codes "true") sum) places rest tt
-          (calm_used s (more a (codes "true") sum) (more a (codes "true") sum) refl)
-          (option_filled sum position places rest o a (codes "true") is_of refl p)
-          (quiet_after s (word ∷ []) line Now w
-          (flag_read s rows pending waiting position sum open_so calm [] w word name d.is (adds_flagged again name [] sum new) (read_none s w)) q))
+          used_parted ih (45 ∷ (45 ∷ name)) (record { name = name; value = None }) d refl is_of (new_name (45 ∷ (45 ∷ name)) name None (flagged name) [] d.is q refl refl) q
 
-      joined_parted : IsParted line → (name v : Text) → IsValued s name → IsOptionOf args (record { name = name; value = Some v })
+      joined_parted : IsParted line → (name v : Text) (required : Bool) → IsValued s required name → IsOptionOf args (record { name = name; value = Some v })
           → IsQuiet s Now ((codes "--" ++ name ++ codes "=" ++ v) ∷ line) → Parts ((codes "--" ++ name ++ codes "=" ++ v) ∷ line) sum places rest
-      joined_parted ih name v d is_of q =
-          let o : GivenOption = record { name = name; value = Some v } in
+      joined_parted ih name v required d is_of q =
           let word : Text = codes "--" ++ name ++ codes "=" ++ v in
-          let a : Rule = valued d.required name in
-          let again : Bool = s.args_override_self in
-          let f : use_fault again a (v ∷ []) sum ≡ [] =
-          ap (λ (rs : List Row). use_fault again a (v ∷ []) rs) (sym calm.rows_are)
-          ∙ (both_none (settle_fault s.rules again (held rows pending)) (use_fault again a (v ∷ []) (settled s.rules (held rows pending)).rows) (use_none word name (Some v) a (d.joined v) q)).1 in
-          let new : has_row name sum ≡ false = first_use again (has_row name sum) once f in
-          let w : Walk = at (more a v sum) None idle position false in
-          with_option o (word ∷ []) line sum places rest a v is_of (inr refl) new refl
-          (ih (more a v sum) None idle position (more a v sum) places rest tt (calm_used s (more a v sum) (more a v sum) refl)
-          (option_filled sum position places rest o a v is_of refl p)
-          (quiet_after s (word ∷ []) line Now w
-          (joined_read s rows pending waiting position sum open_so calm [] w word name v d.required (d.joined v) (adds_valued again name v sum d.required new) (read_none s w)) q))
+          used_parted ih word (record { name = name; value = Some v }) (required, d) (inr refl) is_of (new_name word name (Some v) (valued required name) (v ∷ []) (d.joined v) q refl refl) q
 
-      apart_parted : IsValuedFirst line → (name : Text) → IsValued s name → ((v : Text) → IsOptionOf args (record { name = name; value = Some v }))
+      apart_parted : IsValuedFirst line → (name : Text) (required : Bool) → IsValued s required name → ((v : Text) → IsOptionOf args (record { name = name; value = Some v }))
           → IsQuiet s Now ((45 ∷ (45 ∷ name)) ∷ line) → Parts ((45 ∷ (45 ∷ name)) ∷ line) sum places rest
-      apart_parted first name d is_of q =
+      apart_parted first name required d is_of q =
           let word : Text = 45 ∷ (45 ∷ name) in
-          let a : Rule = valued d.required name in
+          let a : Rule = valued required name in
           let w : Walk = at sum (Some (name, [])) (option name) position false in
           let t : Valued line name a sum places rest =
-          first name d is_of position sum places rest p
-          (quiet_after s (word ∷ []) line Now w (waits_read s rows pending waiting position sum open_so calm [] w word name d.required d.apart (read_none s w)) q) in
+          first name required d is_of position sum places rest p
+          (quiet_after s (word ∷ []) line Now w (waits_read s rows pending waiting position sum open_so calm [] w word name required d.apart (read_none s w)) q) in
           subst (λ (l : List Text). Parts (word ∷ l) sum places rest) (sym t.is)
           (with_option (record { name = name; value = Some t.v }) (word ∷ (t.v ∷ [])) t.after sum places rest a t.v (is_of t.v) (inl (t.unhyphened, refl)) t.new refl t.parts)
 
@@ -314,7 +269,7 @@ module _ (s : Shape) (args : List Argument) (rules_are : s.rules ≡ rules_from 
           let w : Walk = at rows pending waiting position true in
           no_parts ((45 ∷ (45 ∷ [])) ∷ line) line sum places rest
           (trailing_taken line rows pending waiting position sum places rest open_so calm p
-          (quiet_after s ((45 ∷ (45 ∷ [])) ∷ []) line Now w (hyphens_read s rows pending waiting position sum open_so calm [] w (read_none s w)) q))
+          (quiet_after s ((45 ∷ (45 ∷ [])) ∷ []) line Now w (hyphens_read s rows pending waiting position [] w (read_none s w)) q))
           (then_hyphens line)
 
       long_parted : IsParted line → IsValuedFirst line → (e : ℕ) (es : Text) → Cut (e ∷ es) → IsQuiet s Now ((45 ∷ (45 ∷ (e ∷ es))) ∷ line)
@@ -333,7 +288,7 @@ module _ (s : Shape) (args : List Argument) (rules_are : s.rules ≡ rules_from 
           go (helps there) =
               absurd (help_refused s.rules s.args_override_self None (held rows pending)
               (ap (λ (o : Option Rule). long_fault s.rules s.args_override_self o None (held rows pending)) (sym there) ∙ fault))
-          go (takes d is_of) = over (apart_parted first name d is_of)
+          go (takes required d is_of) = over (apart_parted first name required d is_of)
           go (switches d is_of) = over (flag_parted ih name d is_of)
       long_parted ih first e es (cut name v is same) q =
           go (long_view s args name args 1 known (λ o h. h) (ap (λ (l : List Rule). arg_by_long l name) rules_are))
@@ -352,7 +307,7 @@ module _ (s : Shape) (args : List Argument) (rules_are : s.rules ≡ rules_from 
           go (helps there) =
               absurd (help_refused s.rules s.args_override_self (Some v) (held rows pending)
               (ap (λ (o : Option Rule). long_fault s.rules s.args_override_self o (Some v) (held rows pending)) (sym there) ∙ fault))
-          go (takes d is_of) = over (joined_parted ih name v d (is_of v))
+          go (takes required d is_of) = over (joined_parted ih name v required d (is_of v))
           go (switches d is_of) =
               absurd (not_none _ _ (ap (λ (o : Option Rule). long_fault s.rules s.args_override_self o (Some v) (held rows pending)) (sym d.is.by_long) ∙ fault))
 
@@ -365,20 +320,20 @@ module _ (s : Shape) (args : List Argument) (rules_are : s.rules ≡ rules_from 
 
   -- ---- the value of an option
 
-  module _ (line : List Text) (texts : AreTexts line) (name : Text) (d : IsValued s name) (is_of : (v : Text) → IsOptionOf args (record { name = name; value = Some v }))
+  module _ (line : List Text) (texts : AreTexts line) (name : Text) (required : Bool) (d : IsValued s required name) (is_of : (v : Text) → IsOptionOf args (record { name = name; value = Some v }))
       (position : ℕ) (sum : List Row) (places : List Text) (rest : Option Text) (p : ArePlaced sum position places rest) where
     abbrev Waits : Walk
     Waits = at sum (Some (name, [])) (option name) position false
 
-    value_parted : IsParted line → (v : Text) → IsUtf8 v → Looks v → IsQuiet s Waits (v ∷ line) → Valued (v ∷ line) name (valued d.required name) sum places rest
+    value_parted : IsParted line → (v : Text) → IsUtf8 v → Looks v → IsQuiet s Waits (v ∷ line) → Valued (v ∷ line) name (valued required name) sum places rest
     value_parted ih v text (plain w u) q =
-        let a : Rule = valued d.required name in
+        let a : Rule = valued required name in
         let again : Bool = s.args_override_self in
         let held_then : Walk = at sum (Some (name, w ∷ [])) idle position false in
         let quiet : IsQuiet s held_then line =
-        quiet_after s (w ∷ []) line Waits held_then (value_read s sum position name w d.required (unhyphened_no_flag w u) d.by_id d.self [] held_then (read_none s held_then)) q in
+        quiet_after s (w ∷ []) line Waits held_then (value_read s sum position name w required (unhyphened_no_flag w u) d.by_id d.self [] held_then (read_none s held_then)) q in
         let settles : settle_fault s.rules again (held sum (Some (name, w ∷ []))) ≡ [] =
-        open_settles s sum (Some (name, w ∷ [])) idle position places rest p.are tt short_so line texts quiet in
+        open_settles s sum (Some (name, w ∷ [])) idle position places rest p.ready.are_places tt short_so line texts quiet in
         let f : use_fault again a (w ∷ []) sum ≡ [] = ap (λ (o : Option Rule). option_map_or (λ r. use_fault again r (w ∷ []) sum) o []) (sym d.by_id) ∙ settles in
         let new : has_row name sum ≡ false = first_use again (has_row name sum) once f in
         record {
@@ -388,12 +343,14 @@ module _ (s : Shape) (args : List Argument) (rules_are : s.rules ≡ rules_from 
           unhyphened = u;
           new = new;
           parts = ih sum (Some (name, w ∷ [])) idle position (more a w sum) places rest tt
-              (calm_pending s sum a (w ∷ []) w d.by_id (adds_valued again name w sum d.required new))
+              (calm_pending s sum a (w ∷ []) w d.by_id (adds_valued again name w sum required new))
               (option_filled sum position places rest (record { name = name; value = Some w }) a w (is_of w) refl p) quiet;
         }
     value_parted ih v text hyphens q =
-        absurd (no_value_yet name d sum (trailing_settles s sum (Some (name, [])) (option name) position places rest p.are line
-        (quiet_after s ((45 ∷ (45 ∷ [])) ∷ []) line Waits (at sum (Some (name, [])) (option name) position true) (hyphens_walked s sum (Some (name, [])) (option name) position) q)))
+        absurd (no_value_yet name required d sum (trailing_settles s sum (Some (name, [])) (option name) position places rest p.ready.are_places line
+        (quiet_after s ((45 ∷ (45 ∷ [])) ∷ []) line Waits (at sum (Some (name, [])) (option name) position true)
+        (hyphens_read s sum (Some (name, [])) (option name) position [] (at sum (Some (name, [])) (option name) position true)
+        (read_none s (at sum (Some (name, [])) (option name) position true))) q)))
     value_parted ih v text (short x xs other) q =
         absurd (short_none s sum (Some (name, [])) (option name) position short_so x xs other text (first_quiet s Waits (45 ∷ (x ∷ xs)) line q))
     value_parted ih v text (long e es) q = by_cut (cut_of e es)
@@ -401,12 +358,12 @@ module _ (s : Shape) (args : List Argument) (rules_are : s.rules ≡ rules_from 
         turn : turn_fault s [] (at sum (Some (name, [])) (option name) position false) (45 ∷ (45 ∷ (e ∷ es))) ≡ []
         turn = first_quiet s (at sum (Some (name, [])) (option name) position false) (45 ∷ (45 ∷ (e ∷ es))) line q
 
-        by_cut : Cut (e ∷ es) → Valued (v ∷ line) name (valued d.required name) sum places rest
+        by_cut : Cut (e ∷ es) → Valued (v ∷ line) name (valued required name) sum places rest
         by_cut (whole other is same) =
-            absurd (no_value_yet name d sum (long_settles s.rules s.args_override_self (arg_by_long s.rules other) None (held sum (Some (name, [])))
+            absurd (no_value_yet name required d sum (long_settles s.rules s.args_override_self (arg_by_long s.rules other) None (held sum (Some (name, [])))
             (long_none s sum (Some (name, [])) (option name) position (e ∷ es) other None is refl turn)))
         by_cut (cut other x is same) =
-            absurd (no_value_yet name d sum (long_settles s.rules s.args_override_self (arg_by_long s.rules other) (Some x) (held sum (Some (name, [])))
+            absurd (no_value_yet name required d sum (long_settles s.rules s.args_override_self (arg_by_long s.rules other) (Some x) (held sum (Some (name, [])))
             (long_none s sum (Some (name, [])) (option name) position (e ∷ es) other (Some x) is refl turn)))
 
   -- ---- all of a line
@@ -414,17 +371,17 @@ module _ (s : Shape) (args : List Argument) (rules_are : s.rules ≡ rules_from 
   both_parted : (line : List Text) → AreTexts line → IsParted line × IsValuedFirst line
   both_parted [] texts = (
     λ rows pending waiting position sum places rest open_so calm p q. no_parts [] [] sum places rest tt ends,
-    λ name d is_of position sum places rest p q. absurd (no_value_yet name d sum q.settles),
+    λ name required d is_of position sum places rest p q. absurd (no_value_yet name required d sum q.settles),
   )
   both_parted (word ∷ line) texts =
       let ih : IsParted line × IsValuedFirst line = both_parted line texts.1 in (
         λ rows pending waiting position sum places rest open_so calm p q.
             word_parted line rows pending waiting position sum open_so calm places rest p ih.0 ih.1 word texts.0 (looks word) q,
-        λ name d is_of position sum places rest p q. value_parted line texts.1 name d is_of position sum places rest p ih.0 word texts.0 (looks word) q,
+        λ name required d is_of position sum places rest p q. value_parted line texts.1 name required d is_of position sum places rest p ih.0 word texts.0 (looks word) q,
       )
 
-  pub parted : (line : List Text) → AreTexts line → (places : List Text) (rest : Option Text) → ArePlaces s 1 places rest → are_distinct places ≡ true
+  pub parted : (line : List Text) → AreTexts line → (places : List Text) (rest : Option Text) → ArePlaces s 1 places rest → are_distinct places ≡ true → IsNotAmong s rest places
       → ((id : Text) → among id places ≡ true → is_option id args ≡ false) → IsQuiet s (at [] None idle 1 false) line → Parts line [] places rest
-  parted line texts places rest are distinct apart q =
+  parted line texts places rest are distinct other apart q =
       (both_parted line texts).0 [] None idle 1 [] places rest tt (calm_used s [] [] refl)
-      (record { are = are; distinct = distinct; new = λ id h. refl; apart = apart }) q
+      (record { ready = record { declared = tt; are_places = are; distinct = distinct; new = λ id h. refl; other = other }; apart = apart }) q

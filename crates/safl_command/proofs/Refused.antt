@@ -11,15 +11,15 @@ use Rattle.clap.specs.Kinds.{or_else}
 use Rattle.clap.specs.Lexer.{long_of, long_of_rest}
 use Rattle.clap.specs.Simple.{filled, help_rule}
 use Rattle.clap.specs.Walk.{Held, Walk, Waiting, walked, value, is_pending, takes_values, arg_by_short, arg_by_long, reacted}
-use Rattle.clap.specs.Walk.{settled, Step, word_met, subcommand_met, subcommand_or_other, after_step, plain_word, idle, option, positional}
+use Rattle.clap.specs.Walk.{settled, Step, word_met, subcommand_met}
 use Rattle.clap.specs.Faults.{walk_fault, turn_fault, step_fault, other_fault, flag_word_fault, bundle_fault, bundle_step_fault, flags_fault}
 use Rattle.clap.specs.Faults.{short_fault, long_fault, react_fault, option_fault, settle_fault, positional_fault, stray_fault, use_fault}
 use Rattle.clap.specs.declared.error.kind.ErrorKind.{ErrorKind}
 use Rattle.clap.specs.declared.error.kind.ErrorKind.TheVariants as kind
-use Rattle.safl_command.specs.Arranged.{IsUnhyphened, AreTexts}
+use Rattle.safl_command.specs.Arranged.{AreTexts}
 use Rattle.safl_command.proofs.Uses.{placed, rest_placed}
-use Rattle.safl_command.proofs.Stepping.{IsRead, unhyphened_no_flag, quiet_plain, read_word, read_none}
-use Rattle.safl_command.proofs.Walking.{at, held, IsOpen, no_subcommand}
+use Rattle.safl_command.proofs.Stepping.{IsRead, unhyphened_no_flag, read_none}
+use Rattle.safl_command.proofs.Walking.{at, held, IsOpen, no_subcommand, word_quiet, hyphens_read}
 use Rattle.safl_command.proofs.Arranging.{ArePlaces}
 use Rattle.safl_command.proofs.Looks.{Looks, plain, hyphens, long, short, looks, Cut, whole, cut, cut_of}
 
@@ -148,30 +148,6 @@ module _ (s : Shape) (rows : List Row) (pending : Option (Text × List Text)) (w
       ap (λ (x : Bool). option_map_or (λ flags. bundle_fault s.rules s.args_override_self flags h) (if x then None else Some (d ∷ ds)) []) (sym other) ∙ b in
       bundle_refused s.rules s.args_override_self shorts d ds text rows pending c
 
-  pub plain_none : IsOpen waiting → (word : Text) → IsUnhyphened word → turn_fault s [] (at rows pending waiting position false) word ≡ []
-      → step_fault s position (held rows pending) value ≡ []
-  plain_none open_so word u e = sym (go waiting open_so) ∙ sym (quiet_plain s (at rows pending waiting position false) word (unhyphened_no_flag word u) refl refl) ∙ e
-    where
-      go : (w : Waiting) → IsOpen w
-          → step_fault s position (plain_word s.rules w word (held rows pending)).0 (plain_word s.rules w word (held rows pending)).1 ≡ step_fault s position (held rows pending) value
-      go idle h = refl
-      go positional h = refl
-      go (option id) h = absurd h
-
-  pub hyphens_walked : IsRead s (at rows pending waiting position false) ((45 ∷ (45 ∷ [])) ∷ []) (at rows pending waiting position true)
-  unfolding walked walk_fault
-  hyphens_walked =
-      let w : Walk = at rows pending waiting position false in
-      let two : Text = 45 ∷ (45 ∷ []) in
-      read_word s w two [] (at rows pending waiting position true) (at rows pending waiting position true)
-      (ap (λ (o : Option Text). or_else (other_fault s o two (held rows pending))
-      (step_fault s position (subcommand_or_other s.rules o waiting position two (held rows pending)).0
-      (subcommand_or_other s.rules o waiting position two (held rows pending)).1))
-      (no_subcommand two waiting))
-      (ap (λ (o : Option Text). after_step s.rules two w (subcommand_or_other s.rules o waiting position two (held rows pending)).0
-      (subcommand_or_other s.rules o waiting position two (held rows pending)).1) (no_subcommand two waiting))
-      (read_none s (at rows pending waiting position true))
-
   -- ---- what is pending has a fault, and nothing waits for its value
 
   module _ (names : List Text) (rest : Option Text) (are : ArePlaces s position names rest) where
@@ -184,10 +160,10 @@ module _ (s : Shape) (rows : List Row) (pending : Option (Text × List Text)) (w
         go : (ns : List Text) (r : Option Text) → ArePlaces s position ns r → settle_fault s.rules s.args_override_self (held rows pending) ≡ []
         go [] None none = absurd (stray_refused s s.is_leaf (ap F (sym none) ∙ e))
         go [] (Some id) p =
-            ap (λ (c : Bool). if c then [] else settle_fault s.rules s.args_override_self (held rows pending)) (sym (and-false (is_pending (rest_placed p.index id) pending)))
+            ap (λ (c : Bool). if c then [] else settle_fault s.rules s.args_override_self (held rows pending)) (sym (and-false (is_pending (rest_placed position id) pending)))
             ∙ ap F (sym p.by_index) ∙ e
         go (n ∷ ns) r p =
-            ap (λ (c : Bool). if c then [] else settle_fault s.rules s.args_override_self (held rows pending)) (sym (and-false (is_pending (placed p.0.index n) pending)))
+            ap (λ (c : Bool). if c then [] else settle_fault s.rules s.args_override_self (held rows pending)) (sym (and-false (is_pending (placed position n) pending)))
             ∙ ap F (sym p.0.by_index) ∙ e
 
     -- after `--`
@@ -202,9 +178,11 @@ module _ (s : Shape) (rows : List Row) (pending : Option (Text × List Text)) (w
     open_settles open_so shorts (first ∷ line) texts q = go first (looks first) texts.0 q
       where
         go : (w : Text) → Looks w → IsUtf8 w → IsQuiet s (at rows pending waiting position false) (w ∷ line) → settle_fault s.rules s.args_override_self (held rows pending) ≡ []
-        go word (plain w u) text k = value_settles (plain_none open_so w u (first_quiet s (at rows pending waiting position false) w line k))
+        go word (plain w u) text k =
+            value_settles (sym (word_quiet s rows pending waiting position open_so w false (unhyphened_no_flag w u)) ∙ first_quiet s (at rows pending waiting position false) w line k)
         go word hyphens text k =
-            trailing_settles line (quiet_after s ((45 ∷ (45 ∷ [])) ∷ []) line (at rows pending waiting position false) (at rows pending waiting position true) hyphens_walked k)
+            trailing_settles line (quiet_after s ((45 ∷ (45 ∷ [])) ∷ []) line (at rows pending waiting position false) (at rows pending waiting position true)
+            (hyphens_read s rows pending waiting position [] (at rows pending waiting position true) (read_none s (at rows pending waiting position true))) k)
         go word (short d ds other) text k = absurd (short_none shorts d ds other text (first_quiet s (at rows pending waiting position false) (45 ∷ (d ∷ ds)) line k))
         go word (long e es) text k = by_cut (cut_of e es) (first_quiet s (at rows pending waiting position false) (45 ∷ (45 ∷ (e ∷ es))) line k)
           where

@@ -1,12 +1,11 @@
 -- What is found for an argument, after uses of arguments.
 use Rattle.std.proofs.Common.{◌≡◌, ◌∙◌, List, [], ◌∷◌, ◌++◌, Bool, true, false, Option, Some, None, cond, refl, sym, ap, subst, ◌||◌, is_some, find, append_assoc}
-use Rattle.std.specs.Prelude.{if◌then◌else◌, unwrap_or, slice_get}
+use Rattle.std.specs.Prelude.{if◌then◌else◌}
 use Rattle.std.specs.Str.{bytes_eq}
 use Rattle.std.proofs.lemmas.Bool.{false≢true, or_parts}
 use Rattle.std.proofs.lemmas.Slice.Eq.{bytes_eq-Decides}
-use Rattle.clap.specs.Words.{Row, Rule, Text, all_of, first_of}
+use Rattle.clap.specs.Words.{Row, Rule, Text}
 use Rattle.clap.specs.Facts.{explicit_source}
-use Rattle.clap.specs.Takes.{is_given}
 use Rattle.clap.specs.Walk.{at_row, more_values, without, has_row, reading_by, stronger}
 use Rattle.clap.specs.declared.parser.matches.ValueSource.{ValueSource}
 use Rattle.clap.specs.declared.parser.matches.ValueSource.TheVariants.{CommandLine, DefaultValue}
@@ -74,7 +73,7 @@ module _ (id : Text) (a : Rule) (v : Text) where
 
 -- ---- whether there is a row
 
-has_found : (id : Text) (rows : List Row) → has_row id rows ≡ is_some (row id rows)
+pub has_found : (id : Text) (rows : List Row) → has_row id rows ≡ is_some (row id rows)
 has_found id [] = refl
 has_found id (r ∷ rs) = go (bytes_eq r.id id) (has_found id rs)
   where
@@ -110,12 +109,12 @@ abbrev pub said : Text → List (Rule × Text) → List Text
 said id [] = []
 said id (u ∷ us) = if bytes_eq u.0.id id then u.1 ∷ said id us else said id us
 
-abbrev IsSomething : List Text → Type 0
+abbrev pub IsSomething : List Text → Type 0
 IsSomething [] = ⊥
 IsSomething (v ∷ vs) = Unit {0}
 
 -- a row has these values, from the command line; and there is none where there are no values
-abbrev Shows : Option Row → List Text → Type 0
+abbrev pub Shows : Option Row → List Text → Type 0
 Shows None vs = vs ≡ []
 Shows (Some r) vs = (r.values ≡ vs) × (explicit_source r.source ≡ true) × IsSomething vs
 
@@ -133,7 +132,7 @@ shows_added false a v o vs h = h
 shows_added true a v None vs h = (ap (λ (l : List Text). l ++ v ∷ []) (sym h), refl, something_more vs v)
 shows_added true a v (Some r) vs h = (ap (λ (l : List Text). l ++ v ∷ []) h.0, explicit_still r.source, something_more vs v)
 
-shows_poured : (id : Text) (us : List (Rule × Text)) (rows : List Row) (vs : List Text) → Shows (row id rows) vs → Shows (row id (pour us rows)) (vs ++ said id us)
+pub shows_poured : (id : Text) (us : List (Rule × Text)) (rows : List Row) (vs : List Text) → Shows (row id rows) vs → Shows (row id (pour us rows)) (vs ++ said id us)
 shows_poured id [] rows vs h = subst (λ (l : List Text). Shows (row id rows) l) (sym (append-nil vs)) h
 shows_poured id (u ∷ us) rows vs h =
     go (bytes_eq u.0.id id)
@@ -144,38 +143,3 @@ shows_poured id (u ∷ us) rows vs h =
         → Shows (row id (pour (u ∷ us) rows)) (vs ++ (if b then u.1 ∷ said id us else said id us))
     go true k = subst (λ (l : List Text). Shows (row id (pour (u ∷ us) rows)) l) (append_assoc vs (u.1 ∷ []) (said id us)) k
     go false k = k
-
--- ---- what is found
-
-pub record IsFound (id : Text) (vs : List Text) (rows : List Row) : Type 0 where
-  pub first : first_of id rows ≡ slice_get vs 0
-  pub all : unwrap_or (all_of id rows) [] ≡ vs
-  pub given : (v : Text) (more : List Text) → vs ≡ v ∷ more → is_given id rows ≡ true
-  pub has : has_row id rows ≡ is_some (slice_get vs 0)
-  pub none : vs ≡ [] → row id rows ≡ None
-
-found : (id : Text) (vs : List Text) (rows : List Row) (o : Option Row) → row id rows ≡ o → Shows o vs → IsFound id vs rows
-found id vs rows None e h = record {
-  first = rw e (ap (λ (l : List Text). slice_get l 0) (sym h));
-  all = rw e (sym h);
-  given = λ v more k. absurd (cc);
-  has = has_found id rows ∙ rw e (ap (λ (l : List Text). is_some (slice_get l 0)) (sym h));
-  none = λ k. e;
-}
-found id vs rows (Some r) e h = record {
-  first = rw e (ap (λ (l : List Text). slice_get l 0) h.0);
-  all = rw e h.0;
-  given = λ v more k. rw e h.1;
-  has = has_found id rows ∙ rw e (some_first vs h.2);
-  none = λ k. absurd (nothing vs k h.2);
-}
-  where
-    some_first : (l : List Text) → IsSomething l → true ≡ is_some (slice_get l 0)
-    some_first [] k = absurd k
-    some_first (x ∷ xs) k = refl
-
-    nothing : (l : List Text) → l ≡ [] → IsSomething l → ⊥
-    nothing l e k = subst IsSomething e k
-
-pub found_said : (id : Text) (us : List (Rule × Text)) → IsFound id (said id us) (pour us [])
-found_said id us = found id (said id us) (pour us []) (row id (pour us [])) refl (shows_poured id us [] [] refl)

@@ -1,12 +1,12 @@
 -- How `clap` reads words that are no flags, word by word.
 use Rattle.std.proofs.Common.{◌≡◌, ◌∙◌, List, [], ◌∷◌, ◌++◌, Bool, true, false, Option, Some, None, refl, ap, codes, arith}
-use Rattle.std.specs.Prelude.{◌==◌, find, fold, is_some, if◌then◌else◌, unwrap_or}
+use Rattle.std.specs.Prelude.{◌==◌, find, fold, is_some, if◌then◌else◌}
 use Rattle.std.specs.Str.{bytes_eq}
 use Rattle.std.proofs.lemmas.List.{append_assoc, append-nil}
 use Rattle.clap.specs.Words.{App, Shape, Kinds, Row, Rule, Text}
 use Rattle.clap.specs.Kinds.{or_else}
 use Rattle.clap.specs.Lexer.{long_of, short_of}
-use Rattle.clap.specs.Simple.{built, names_of, label_of, rows_at, entered, argument_words, new_shape}
+use Rattle.clap.specs.Simple.{built, names_of, label_of, rows_at, entered, argument_words}
 use Rattle.clap.specs.Walk.{Names, Held, Walk, Step, Waiting, idle, option, positional, walked, walked_from, walk_from, nothing_held, after_step}
 use Rattle.clap.specs.Walk.{word_met, subcommand_or_other, subcommand_met, plain_word, answers_to, finished, settled, stop_after}
 use Rattle.clap.specs.Faults.{walk_fault, turn_fault, word_fault, other_fault, step_fault, level_fault, built_fault, entered_fault, settle_fault, defaults_fault, check_fault}
@@ -89,10 +89,6 @@ command_entered word s e ws =
     ap (λ (l : List Text). faultless (built_fault (built app) nothing_held l) (entered (built app) (stop_after (built app).top.rules (names_of (built app)) l))) (words_after word ws)
     ∙ ap (λ (k : Kinds). faultless k (entered (built app) (stop_after (built app).top.rules (names_of (built app)) (word ∷ ws)))) (built_fault_so (built app) word s e ws)
     ∙ ap (faultless (level_fault s [] nothing_held ws false [])) (entered_there (built app) word s e ws)
-
--- the command that answers to a word
-abbrev pub shape_for : Text → Shape
-shape_for word = unwrap_or (find (λ x. answers_to word (label_of x)) (built app).subs) (new_shape [])
 
 -- ---- the command's level
 

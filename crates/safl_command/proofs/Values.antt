@@ -44,3 +44,6 @@ number_is true word (Some n) some v = ap Some v
 number_is true word None some v = absurd (false≢true (some.1 refl))
 number_is false word (Some n) some v = absurd (false≢true (some.0 refl))
 number_is false word None some v = refl
+
+-- what proves the values of arguments
+pub ruleset values = (first_is, first_is_not, value_is, no_value, values_are, no_values, number_is)

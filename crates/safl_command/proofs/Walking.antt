@@ -68,6 +68,32 @@ no_subcommand word idle = refl
 no_subcommand word (option id) = refl
 no_subcommand word positional = refl
 
+module _ (s : Shape) (rows : List Row) (pending : Option (Text × List Text)) (waiting : Waiting) (position : ℕ) where
+  pub word_quiet : IsOpen waiting → (word : Text) (after_hyphens : Bool) → IsPlaced word after_hyphens → turn_fault s [] (at rows pending waiting position after_hyphens) word
+      ≡ step_fault s position (held rows pending) value
+  word_quiet open_so word true plain_so = refl
+  word_quiet open_so word false plain_so = quiet_plain s (at rows pending waiting position false) word plain_so refl refl ∙ go waiting open_so
+    where
+      go : (w : Waiting) → IsOpen w
+          → step_fault s position (plain_word s.rules w word (held rows pending)).0 (plain_word s.rules w word (held rows pending)).1 ≡ step_fault s position (held rows pending) value
+      go idle h = refl
+      go positional h = refl
+      go (option id) h = absurd h
+
+  -- `--`
+  pub hyphens_read : (line : List Text) (end : Walk) → IsRead s (at rows pending waiting position true) line end → IsRead s (at rows pending waiting position false) ((45 ∷ 45 ∷ []) ∷ line) end
+  unfolding walked
+  hyphens_read line end r =
+      let w : Walk = at rows pending waiting position false in
+      read_word s w (45 ∷ 45 ∷ []) line (at rows pending waiting position true) end
+      (ap (λ (o : Option Text). or_else (other_fault s o (45 ∷ 45 ∷ []) (held rows pending))
+      (step_fault s position (subcommand_or_other s.rules o waiting position (45 ∷ 45 ∷ []) (held rows pending)).0
+      (subcommand_or_other s.rules o waiting position (45 ∷ 45 ∷ []) (held rows pending)).1))
+      (no_subcommand (45 ∷ 45 ∷ []) waiting))
+      (ap (λ (o : Option Text). after_step s.rules (45 ∷ 45 ∷ []) w (subcommand_or_other s.rules o waiting position (45 ∷ 45 ∷ []) (held rows pending)).0
+      (subcommand_or_other s.rules o waiting position (45 ∷ 45 ∷ []) (held rows pending)).1) (no_subcommand (45 ∷ 45 ∷ []) waiting))
+      r
+
 module _ (s : Shape) (rows : List Row) (pending : Option (Text × List Text)) (waiting : Waiting) (position : ℕ) (sum : List Row) (open_so : IsOpen waiting)
     (calm : Calm s (held rows pending) sum) (line : List Text) (end : Walk) where
   -- ---- a word that goes to its place
@@ -84,17 +110,6 @@ module _ (s : Shape) (rows : List Row) (pending : Option (Text × List Text)) (w
       go positional h = refl
       go (option id) h = absurd h
 
-  pub word_quiet : (word : Text) (after_hyphens : Bool) → IsPlaced word after_hyphens → turn_fault s [] (at rows pending waiting position after_hyphens) word
-      ≡ step_fault s position (held rows pending) value
-  word_quiet word true plain_so = refl
-  word_quiet word false plain_so = quiet_plain s (at rows pending waiting position false) word plain_so refl refl ∙ go waiting open_so
-    where
-      go : (w : Waiting) → IsOpen w
-          → step_fault s position (plain_word s.rules w word (held rows pending)).0 (plain_word s.rules w word (held rows pending)).1 ≡ step_fault s position (held rows pending) value
-      go idle h = refl
-      go positional h = refl
-      go (option id) h = absurd h
-
   pub placed_read : (word : Text) (after_hyphens : Bool) (index : ℕ) (id : Text) → IsPlaced word after_hyphens → arg_by_index s.rules position ≡ Some (placed index id)
       → IsRead s (at sum (Some (id, word ∷ [])) idle (min (position + 1) usize_max) after_hyphens) line end → IsRead s (at rows pending waiting position after_hyphens) (word ∷ line) end
   placed_read word after_hyphens index id plain_so by r =
@@ -107,7 +122,7 @@ module _ (s : Shape) (rows : List Row) (pending : Option (Text × List Text)) (w
         stopped = None;
       } in
       read_word s (at rows pending waiting position after_hyphens) word line _ end
-      (word_quiet word after_hyphens plain_so
+      (word_quiet s rows pending waiting position open_so word after_hyphens plain_so
       ∙ ap (λ (o : Option Rule). option_map_or (λ a. positional_fault s.rules s.args_override_self a (held rows pending)) o (stray_fault s)) by
       ∙ ap (λ (c : Bool). if c then [] else settle_fault s.rules s.args_override_self (held rows pending)) (and-false b)
       ∙ calm.fault)
@@ -130,7 +145,7 @@ module _ (s : Shape) (rows : List Row) (pending : Option (Text × List Text)) (w
         stopped = None;
       } in
       read_word s (at rows pending waiting position after_hyphens) word line _ end
-      (word_quiet word after_hyphens plain_so
+      (word_quiet s rows pending waiting position open_so word after_hyphens plain_so
       ∙ ap (λ (o : Option Rule). option_map_or (λ a. positional_fault s.rules s.args_override_self a (held rows pending)) o (stray_fault s)) by
       ∙ ap (λ (c : Bool). if c then [] else settle_fault s.rules s.args_override_self (held rows pending)) (and-false b)
       ∙ calm.fault)
@@ -139,21 +154,6 @@ module _ (s : Shape) (rows : List Row) (pending : Option (Text × List Text)) (w
       ∙ ap (λ (c : Bool). W c (settled_rows s.rules pending rows) (after_hyphens || false)) (and-false b)
       ∙ ap (λ (rs : List Row). W false rs (after_hyphens || false)) calm.rows_are
       ∙ ap (λ (t : Bool). W false sum t) (or-false after_hyphens))
-      r
-
-  -- ---- `--`
-
-  pub hyphens_read : IsRead s (at rows pending waiting position true) line end → IsRead s (at rows pending waiting position false) ((45 ∷ 45 ∷ []) ∷ line) end
-  unfolding walked
-  hyphens_read r =
-      let w : Walk = at rows pending waiting position false in
-      read_word s w (45 ∷ 45 ∷ []) line (at rows pending waiting position true) end
-      (ap (λ (o : Option Text). or_else (other_fault s o (45 ∷ 45 ∷ []) (held rows pending))
-      (step_fault s position (subcommand_or_other s.rules o waiting position (45 ∷ 45 ∷ []) (held rows pending)).0
-      (subcommand_or_other s.rules o waiting position (45 ∷ 45 ∷ []) (held rows pending)).1))
-      (no_subcommand (45 ∷ 45 ∷ []) waiting))
-      (ap (λ (o : Option Text). after_step s.rules (45 ∷ 45 ∷ []) w (subcommand_or_other s.rules o waiting position (45 ∷ 45 ∷ []) (held rows pending)).0
-      (subcommand_or_other s.rules o waiting position (45 ∷ 45 ∷ []) (held rows pending)).1) (no_subcommand (45 ∷ 45 ∷ []) waiting))
       r
 
   -- ---- an option

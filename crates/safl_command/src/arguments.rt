@@ -1,4 +1,5 @@
 //! The values of a command's arguments.
+#![tactic(auto, using(crate::proofs::Values::values))]
 
 ghost use Rattle.std.specs.Prelude.{◌≡◌, ◌≤◌, ◌↔◌, true, IfOk, IsSome, IfSome, Some, map, option_and_then, option_map, string_bytes, codes, bytes_eq};
 ghost use Rattle.clap.specs.Words.{found_of, rows_of, first_of};

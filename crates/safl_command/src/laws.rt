@@ -1,4 +1,5 @@
 //! Laws of command lines: which words are which command.
+#![tactic(auto, using(crate::proofs::ExactLines::laws))]
 
 ghost use Rattle.safl_command.specs.Laws.{CheckWords, CheckLines, BuildWords, BuildLines, OptimiseWords, OptimiseLines, SimWords, SimLines, WalkWords, WalkLines, RunWords, RunLines, ReportWords, ReportLines, GenWords, GenLines, BenchWords, BenchLines, CopyWords, CopyLines, UnfoldWords, UnfoldLines, SessionWords, SessionLines, AigWords, AigLines, AigstatWords, AigstatLines};
 ghost use Rattle.safl_command.specs.Spelled.{LinesAreExact, OthersAreNone, CasesAreNone};

@@ -2,9 +2,8 @@
 
 ghost use Rattle.std.specs.Prelude.{◌≡◌, ◌∷◌, IfOk, map, option_map, string_bytes, codes};
 ghost use Rattle.clap.specs.Words.{found_of, rows_of, subcommand_rows_of};
-ghost use Rattle.safl_command.specs.Commands.{command_of, command_of_line, given, command_in, shown_command};
+ghost use Rattle.safl_command.specs.Commands.{command_of, command_of_line, given, command_in, shown_command, traces_in, change_in, word_of, reshaped};
 ghost use Rattle.safl_command.specs.Traces.{shown_traces};
-ghost use Rattle.safl_command.specs.Commands.{traces_in, change_in, word_of, reshaped};
 
 use crate::arguments::{
     args_in, count_in, has_flag, limit_in, name_in, number_in, number_of, word_in,

@@ -18,8 +18,7 @@ pub struct Traces {
 
 impl Traces {
     ghost use Rattle.std.specs.Prelude.{◌≡◌, option_map};
-    ghost use Rattle.safl_command.specs.Apart.{files};
-    ghost use Rattle.safl_command.specs.Traces.{shown_traces, if_apart};
+    ghost use Rattle.safl_command.specs.Traces.{files, shown_traces, if_apart};
 
     /// The traces with these files. None exactly if a name is empty or two are the same.
     pub fn new(

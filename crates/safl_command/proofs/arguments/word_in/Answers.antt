@@ -1,13 +1,10 @@
 use Rattle.std.proofs.Common.{◌≡◌, ℕ, List, Option, string_bytes, subst}
 use Rattle.std.specs.Prelude.{IfOk, option_map}
 use Rattle.clap.specs.Words.{found_of}
-use Rattle.safl_command.proofs.Values.{first_is, first_is_not}
+use Rattle.safl_command.proofs.Values.{first_is}
 use Rattle.safl_command.proofs.arguments.word_in.Goals as goal
 
 pub returns-in-Some : goal.returns-in-Some
 returns-in-Some c =
     subst (λ (o : Option (List ℕ)). IfOk c.copied.result (λ copy. option_map string_bytes copy ≡ o))
     (first_is (found_of c.args.values.now) c.args.id.now c.get_str.result c.in-Some.word c.get_str.ensures c.in-Some.is) c.copied.ensures
-
-pub returns-in-None : goal.returns-in-None
-returns-in-None c = first_is_not (found_of c.args.values.now) c.args.id.now c.get_str.result c.get_str.ensures c.in-None.is
