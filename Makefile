@@ -13,6 +13,7 @@ TIMER ?= crates/safl_time/out/safl_time
 INSTALL ?= install
 to = $(DESTDIR)$(PREFIX)
 tools = $(wildcard tools/safl-*)
+pages = $(notdir $(wildcard man/*.1))
 folders = $(shell find tools -type d -not -name __pycache__)
 
 .PHONY: all check examples install uninstall
@@ -36,12 +37,9 @@ examples: $(PROGRAM)
 install: $(PROGRAM) $(TIMER)
 	$(INSTALL) -d $(to)/bin $(to)/share/man/man1 $(to)/share/bash-completion/completions $(to)/share/zsh/site-functions
 	$(INSTALL) -m 755 $(PROGRAM) $(to)/bin/safl
-	sed -e '1s/"Pongurike"/"Pongurike $(VERSION)"/' -e 's|/usr/local/share/doc/safl|$(PREFIX)/share/doc/safl|g' man/safl.1 >$(to)/share/man/man1/safl.1
-	chmod 644 $(to)/share/man/man1/safl.1
 	$(INSTALL) -m 644 completion/safl.bash $(to)/share/bash-completion/completions/safl
 	$(INSTALL) -m 644 completion/_safl $(to)/share/zsh/site-functions/_safl
 	$(INSTALL) -m 755 $(TIMER) $(to)/bin/safl-time
-	$(INSTALL) -m 644 man/safl-time.1 $(to)/share/man/man1
 	$(INSTALL) -m 644 completion/safl-time.bash $(to)/share/bash-completion/completions/safl-time
 	$(INSTALL) -m 644 completion/_safl-time $(to)/share/zsh/site-functions/_safl-time
 	for part in syntax ftdetect ftplugin; do \
@@ -55,9 +53,12 @@ install: $(PROGRAM) $(TIMER)
 	for tool in $(notdir $(tools)); do \
 	  chmod 755 $(to)/share/safl/tools/$$tool && \
 	  ln -sf ../share/safl/tools/$$tool $(to)/bin/$$tool && \
-	  $(INSTALL) -m 644 man/$$tool.1 $(to)/share/man/man1 && \
 	  $(INSTALL) -m 644 completion/$$tool.bash $(to)/share/bash-completion/completions/$$tool && \
 	  $(INSTALL) -m 644 completion/_$$tool $(to)/share/zsh/site-functions/_$$tool || exit 1; \
+	done
+	for page in $(pages); do \
+	  sed -e '/^\.TH /s/"Pongurike"/"Pongurike $(VERSION)"/' -e 's|/usr/local/share/doc/safl|$(PREFIX)/share/doc/safl|g' man/$$page \
+	    >$(to)/share/man/man1/$$page && chmod 644 $(to)/share/man/man1/$$page || exit 1; \
 	done
 	$(INSTALL) -d $(to)/share/doc/safl/docs/tutorial $(to)/share/doc/safl/docs/guide
 	$(INSTALL) -m 644 README.md CHANGES.md LICENSE $(to)/share/doc/safl

@@ -7,8 +7,9 @@
                                  program P; each is kept at once, so this may be interrupted
 
 A circuit is measured as it is written, with one multiplier, and after `safl reshape --copy` until no unit has an arbiter. Cycles are
-those of the longest run of its page. LUTs, DSP blocks and the clock on the iCE40 UP5K are those of tools/safl-place, with `--dsp` and
-without; a circuit that does not fit has no clock. For the ECP5 Yosys counts alone, with `synth_ecp5` and `synth_ecp5 -nodsp`.
+those of the longest run of its page. LUTs, DSP blocks and the clock on the iCE40 UP5K, the median of three placements, are those of
+tools/safl-place, with `--dsp` and without; a circuit that does not fit has no clock. For the ECP5 Yosys counts alone, with `synth_ecp5`
+and `synth_ecp5 -nodsp`.
 """
 import hashlib
 import json
@@ -31,7 +32,7 @@ PAGE, STORE = f"{TOP}/docs/GUIDE.md", f"{TOP}/docs/guide/dsp.json"
 CIRCUITS = ("fir", "biquad", "butterfly", "complex", "pid", "mandelbrot")
 COMPLEX = (str((3 << 16) + 4), str((5 << 16) + 65534))  # 3 + 4i and 5 - 2i
 SHARED, COPIED = "shared", "copied"
-DEVICE, LIMIT, STEPS = safl_place.DEVICES["up5k"], "100000", 64
+DEVICE, SEEDS, LIMIT, STEPS = safl_place.DEVICES["up5k"], 3, "100000", 64
 LUTS = 5280  # so many has the device
 REFUSED = "refused"  # what Yosys says where it gives no counts
 ECP5 = {"without": "synth_ecp5 -nodsp", "with": "synth_ecp5"}
@@ -97,9 +98,9 @@ def counted_for_ecp5(file, way, folder):
 
 
 def placed(file, way, folder):
-    """The clock of a placement on the UP5K; 0 if the circuit does not fit."""
+    """The median clock of placements on the UP5K; 0 if the circuit does not fit."""
     try:
-        return {"mhz": safl_place.measured([file], DEVICE, options=safl_place.Options(dsp=way == "with"))[1]}
+        return {"mhz": safl_place.measured([file], DEVICE, options=safl_place.Options(seeds=SEEDS, dsp=way == "with"))[1]}
     except Refusal as refusal:
         print(f"dsp: no clock: {refusal.line}", flush=True)
         return {"mhz": 0}
@@ -161,11 +162,20 @@ def measure_one(made, place, wanted, taken, folder):
         write(STORE, json.dumps(kept, indent=1, sort_keys=True) + "\n")
 
 
+def why_no_clock(each):
+    """Why a version has no clock on the UP5K."""
+    if REFUSED in each:
+        return f"none: {yosys.reason(each[REFUSED])}"
+    if each["dsps"] > DEVICE.dsps:
+        return f"none: {each['dsps']} blocks of {DEVICE.dsps}"
+    return f"none: {each['luts']:,} LUTs of {LUTS:,}" if each["luts"] > LUTS else "none: nextpnr finds no place"
+
+
 def cells(each):
     """LUTs, DSP blocks and MHz on the UP5K, and LUTs and DSP blocks of the ECP5. What has not been measured is empty."""
     found = ["" if key not in each else f"{each[key]:,.0f}" for key in ("luts", "dsps", "mhz", "ecp5", "ecp5 dsps")]
-    luts = "Yosys fails" if REFUSED in each else found[0]
-    return [luts, found[1], "does not fit" if found[2] == "0" else found[2], *found[3:]]
+    luts, dsps, megahertz = ["none", "none", "0"] if REFUSED in each else found[:3]
+    return [luts, dsps, why_no_clock(each) if megahertz == "0" else megahertz, *found[3:]]
 
 
 def lines(kept):

@@ -23,7 +23,7 @@ import time
 
 from files import TOP, examples, read, written
 from gallery import calls_of
-from program import PROGRAM, told
+from program import PROGRAM, lacks, told
 
 sys.path.insert(0, f"{TOP}/tools")
 from safl_explore import tree  # noqa: E402
@@ -136,6 +136,8 @@ def main():
     words.add_argument("--jobs", type=int, default=os.cpu_count())
     words.add_argument("names", metavar="NAME", nargs="*")
     chosen, fell = words.parse_args(), []
+    if lacks(PROGRAM):
+        return 0
     heads = ["circuit", "source", "sets of functions", "before", "now", "built", "processor s", "s", "falls short of"]
     print(f"| {' | '.join(heads)} |\n|{'---|' * len(heads)}")
     for name, *case in cases(chosen.more):

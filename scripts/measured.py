@@ -13,6 +13,7 @@ import sys
 import tempfile
 from dataclasses import asdict, dataclass, replace
 
+import yosys
 from files import TOP, read, write, written
 from program import told
 from safl_bench import bench
@@ -22,7 +23,7 @@ PLACE = os.environ.get("SAFL_PLACE", f"{TOP}/tools/safl-place")
 DEVICE, DEVICE_NAME, SEED = "hx8k", "iCE40 HX8K", 1
 DSP_DEVICE, DSP_DEVICE_NAME, DSP_BLOCKS = "up5k", "iCE40 UP5K", 8
 TOOL_FAILED = 31
-BY_HAND = "by hand"
+BY_HAND, NONE = "by hand", "none"
 
 
 @dataclass(frozen=True)
@@ -36,7 +37,7 @@ class Figures:
     fits: bool = None
     cycle: int = None  # that of done in the page's longest run, where no other program can tell it
     built: str = None  # the digest of the built file
-    dsp: dict = None  # LUTs, flip-flops and DSP blocks on a device that has them, where the circuit multiplies by any
+    dsp: dict = None  # LUTs, flip-flops and DSP blocks on a device that has them, where the circuit multiplies by any, or why Yosys counts none
 
 
 def digest_of(text):
@@ -122,8 +123,10 @@ def placed_source(program, source, has_clock):
 
 
 def with_dsp(path):
-    """The cells on a device with DSP blocks, if the circuit takes any of them."""
+    """The cells on a device with DSP blocks, if the circuit takes any of them, or why Yosys counts none."""
     found = told([sys.executable, PLACE, path, "--device", DSP_DEVICE, "--dsp", "--counts"])
+    if found.returncode == TOOL_FAILED:
+        return {NONE: yosys.reason(found.stderr)}
     if found.returncode:
         sys.exit(f"examples: {found.stderr.strip()}")
     value = dict(re.findall(r"^(luts|flip-flops|dsp blocks) (\d+)$", found.stdout, re.M))

@@ -25,7 +25,7 @@ from contextlib import contextmanager
 
 from files import TOP, read, written
 from gallery import PAGES
-from program import PROGRAM, lacks, told
+from program import PROGRAM, TIMER, lacks, told
 
 sys.path.insert(0, f"{TOP}/tools")
 from safl_explore import meaning, text_steps, tree  # noqa: E402
@@ -452,6 +452,18 @@ def front(checks, folder):
     checks.same("the most calls for the area", max(point["calls for area"] for point in by_luts), best["calls for area"])
 
 
+def refused(checks, folder):
+    """A point that Yosys refuses is left out and told; if Yosys refuses the source itself, nothing is left to tell."""
+    fault, calls = "yosys: ERROR: an assertion failed", five(folder)
+    for tells, status, line in (("! grep", 0, "1 source left out, the first for: "), ("grep", 31, "safl-explore: ")):
+        has_unit = f'{tells} -q "res[$]f" file0.v'
+        lame = f'#!/bin/sh\nif {has_unit}; then echo "{fault.removeprefix("yosys: ")}" >&2; exit 1; fi\nexec {shutil.which("yosys")} "$@"\n'
+        os.chmod(written(folder, "yosys", lame), 0o755)
+        ran = told(["env", f"PATH={folder}:{os.environ['PATH']}", EXPLORE, SHARED, "--calls", calls, "--luts", "--safl", PROGRAM])
+        checks.same("the status if Yosys refuses a source", status, ran.returncode)
+        checks.same("its last line", f"{line}{fault}", (ran.stdout + ran.stderr).splitlines()[-1])
+
+
 def placed(checks, folder):
     """Two circuits, one of them twice."""
     printed = {}
@@ -489,7 +501,7 @@ def streamed(checks, folder):
 
 def installed(checks, folder):
     """What `make install` puts into its folders runs."""
-    ran = told(["make", "-C", TOP, "install", f"PREFIX={folder}/to", f"PROGRAM={PROGRAM}"])
+    ran = told(["make", "-C", TOP, "install", f"PREFIX={folder}/to", f"PROGRAM={PROGRAM}", f"TIMER={TIMER}"])
     checks.same(f"make install: {ran.stderr}", 0, ran.returncode)
     for name in ("safl-explore", "safl-place"):
         checks.same(f"{name} --help", 0, told([f"{folder}/to/bin/{name}", "--help"]).returncode)
@@ -501,7 +513,7 @@ def installed(checks, folder):
 PARTS = (
     (known_points, ()), (shared_point, ()), (joined_with_main, ()), (texts, ()), (by_text, ()), (inlined, ()), (known_before, ()),
     (wrong_uses, ()), (wrong_uses_of_place, ()), (interrupted, ()),
-    (installed, ("make",)), (on_cluster, ("distributed",)), (pictures, ("matplotlib",)), (counted, ("yosys",)), (front, ("yosys",)),
+    (installed, ("make",)), (on_cluster, ("distributed",)), (pictures, ("matplotlib",)), (counted, ("yosys",)), (front, ("yosys",)), (refused, ("yosys",)),
     (placed, ("yosys", "nextpnr-ice40")), (simulated, ("make", "iverilog")),
     (streamed, ("make", "yosys", "nextpnr-ice40", "icepack")),
 )

@@ -1,9 +1,9 @@
 #!/usr/bin/env python3
-"""Tries `make install` and `make uninstall`, with a folder that has a space in its name for DESTDIR.
+"""Tries `make install` and `make uninstall`, with a folder for DESTDIR.
 
 Each link of the installed pages leads to a file and a heading. Each installed tool says its version, which is the one in
 share/doc/safl/VERSION, has a manual page of which `man` makes no complaint, and completions; what safl-explain tells is found from
-there. After `make uninstall` no file is left.
+there, and the documents that it names are the installed ones. After `make uninstall` no file is left.
 """
 import os
 import re
@@ -13,7 +13,7 @@ import tempfile
 import links
 from files import TOP, examples, read
 from given import parser
-from program import PROGRAM, lacks, told
+from program import PROGRAM, TIMER, lacks, told
 
 PREFIX = "/usr"
 
@@ -30,7 +30,7 @@ class Trial:
             print(f"tools_installed: {what}: {wanted!r} is wanted, but there is {got!r}")
 
     def make(self, goal):
-        done = told(["make", "-s", "-C", TOP, goal, f"DESTDIR={self.folder}", f"PREFIX={PREFIX}", f"PROGRAM={PROGRAM}"])
+        done = told(["make", "-s", "-C", TOP, goal, f"DESTDIR={self.folder}", f"PREFIX={PREFIX}", f"PROGRAM={PROGRAM}", f"TIMER={TIMER}"])
         self.same(f"make {goal}", (0, ""), (done.returncode, done.stderr))
 
 
@@ -50,7 +50,7 @@ def try_tool(trial, name, version):
 
 
 def try_explain(trial):
-    """The tool finds the program beside it, and its own files."""
+    """The tool finds the program beside it, its own files, and the documents."""
     environment = {**os.environ, "PATH": os.defpath}
     environment.pop("SAFL", None)
     words = ["env", "-i", f"PATH={os.environ['PATH']}", f"{trial.folder}{PREFIX}/bin/safl-explain", "check", dict(examples())["seven"]]
@@ -58,6 +58,10 @@ def try_explain(trial):
     trial.same("the installed safl-explain", (0, "functions 1\nsites 0\n"), (done.returncode, done.stdout))
     done = told([f"{trial.folder}{PREFIX}/bin/safl-explain", "E10"])
     trial.same("the installed page of E10", True, done.stdout.startswith("E10 "))
+    for word, page in (("E04", "LANGUAGE"), ("V06", "VERILOG"), ("E99x", "COMMANDS")):
+        done = told([*words[:-2], word], trial.folder)
+        wanted = f"{trial.folder}{PREFIX}/share/doc/safl/docs/{page}.md"
+        trial.same(f"safl-explain {word} names {page}.md", [wanted], re.findall(r"[^\s(]*\.md", done.stdout + done.stderr))
 
 
 def main():

@@ -21,6 +21,12 @@ def version():
     return subprocess.run(["yosys", "-V"], capture_output=True, text=True, check=True).stdout.split()[1]
 
 
+def reason(line):
+    """Why Yosys comes to no end, in words, by the line that it prints."""
+    found = re.search(r"Assert .* failed in \S*/(\w+)_pm\.h", line)
+    return f"Yosys ends at an assertion of `{found[1]}`" if found else "Yosys ends with an error"
+
+
 def run(script):
     """Whether Yosys comes to the end of a script."""
     return subprocess.run(["yosys", "-q", "-p", script], capture_output=True, check=False).returncode == 0

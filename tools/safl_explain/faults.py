@@ -2,6 +2,7 @@
 import os
 import re
 
+from safl_tools.documents import cited
 from safl_tools.ending import WRONG_USE, Refusal
 from safl_tools.files import read
 
@@ -20,9 +21,9 @@ def rows():
 
 
 def unlinked(text):
-    """A cell without its links, which become names of pages."""
+    """A cell in which each link is the name of a page."""
     text = re.sub(r"\[([^\]]*)\]\(#[^)]*\)", r"\1 (docs/LANGUAGE.md)", text)
-    return re.sub(r"\(?\[([^\]]*)\]\((\w+\.md)[^)]*\)\)?", r"(docs/\2)", text)
+    return cited(re.sub(r"\(?\[([^\]]*)\]\((\w+\.md)[^)]*\)\)?", r"(docs/\2)", text))
 
 
 def row(key):
@@ -41,4 +42,4 @@ def page(rule):
     rule = rule.upper()
     if rule not in pages():
         raise Refusal(WRONG_USE, f"there is no rule {rule}: there are {', '.join(pages())}")
-    return read(os.path.join(FOLDER, "pages", f"{rule}.txt"))
+    return cited(read(os.path.join(FOLDER, "pages", f"{rule}.txt")))

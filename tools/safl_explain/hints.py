@@ -4,14 +4,15 @@ import re
 import unicodedata
 
 from safl_explain.tokens import KEYWORDS, number
+from safl_tools.documents import cited
 
 BYTES = {
     "[": ("`a[3]` is written `bits(a, 3, 3)`, and `a[7:4]` is `bits(a, 7, 4)`",),
     "]": ("`a[3]` is written `bits(a, 3, 3)`, and `a[7:4]` is `bits(a, 7, 4)`",),
     "!": ("`!a` is written `a == 0`, or `~a` for a word of one bit; `a != b` is a comparison",),
     "?": ("`c ? x : y` is written `if c then x else y`",),
-    "/": ("there is no division: write a loop, as examples/divide does",),
-    "%": ("there is no remainder: subtract where a sum can pass the modulus once, or write a loop, as examples/divide does",),
+    "/": (cited("there is no division: write a loop, as examples/divide does"),),
+    "%": (cited("there is no remainder: subtract where a sum can pass the modulus once, or write a loop, as examples/divide does"),),
     ".": ("there are no fractions and no fields; the point has no meaning",),
     '"': ("there are no texts, only words of bits",),
     "'": ("a number with a width is written `8'd255`, `8'hff` or `8'b1010`: the base is d, h or b, in lower case, with no blank beside the `'`",),
@@ -29,7 +30,7 @@ NOT_HERE = {
     "-": "`-a` is written `0 - a`",
     "^": "`^a`, the parity, is written with shifts: `a ^ (a >> 4)` and so on, and then `bits(a, 0, 0)`",
     "=": "a comparison is written `==`",
-    ">": "`>>>` is for signed words: see \"Signed words\" in docs/LANGUAGE.md",
+    ">": cited("`>>>` is for signed words: see \"Signed words\" in docs/LANGUAGE.md"),
 }
 FIRST_WORDS = {"module": "this looks like Verilog: `safl run` and `safl aig` read such a file; the other commands read a source",
                "aag": "this looks like an AIGER file, which `safl aigstat` reads"}

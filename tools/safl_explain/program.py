@@ -101,8 +101,8 @@ def main():
     given, changed = in_decimal(given)
     status, out, err = run(safl, given, inputs, bool(changed))
     say(out, err)
-    if changed:
-        tell_hexadecimal(changed, out)
     if status:
         explain(safl, given, status, err.decode("utf-8", "surrogateescape").rstrip("\n"), inputs)
+    if changed:
+        tell_hexadecimal(changed, out)
     return status

@@ -6,6 +6,7 @@ from dataclasses import dataclass
 from safl_explain import arguments, running, source, system, usage, verilog
 from safl_explain.report import Fault, Report, Spot
 from safl_explain.text import Page
+from safl_tools.documents import cited
 from safl_tools.ending import CANNOT_READ, CANNOT_WRITE, WRONG_USE
 
 SOURCE, MEMORY, NO_RESULT, VERILOG, ARGUMENTS, PROBE, LENGTH, AIGER, WEIGHT, SITE, RESET, NAMES = 1, 5, 6, 7, 8, 9, 10, 11, 12, 13, 14, 20
@@ -145,7 +146,7 @@ def aiger_fault(ended):
     place = page.place_of(int(found[2]), 1)
     end = data.find(b"\n", place)
     is_verilog = data.lstrip().startswith(b"module")
-    hint = "this looks like Verilog: `safl aig FILE OUT` makes an AIGER file of it" if is_verilog else "docs/AIGER.md has the profile"
+    hint = "this looks like Verilog: `safl aig FILE OUT` makes an AIGER file of it" if is_verilog else cited("docs/AIGER.md has the profile")
     return [(page, Report(spot=Spot(place, end if end > place else place + 1), hints=[hint]))]
 
 
@@ -195,7 +196,7 @@ TELLERS = {
     SOURCE: source_fault, WRONG_USE: wrong_use, CANNOT_READ: unreadable, CANNOT_WRITE: unwritable,
     MEMORY: said("close other programs, raise `ulimit -v`, or make several circuits of the source"),
     NO_RESULT: no_result, VERILOG: verilog_fault, ARGUMENTS: wrong_arguments, PROBE: said("this should never happen: please report it"), LENGTH: too_long,
-    AIGER: aiger_fault, WEIGHT: said("a bit-level circuit may have a weight of 1,000,000: products and shifts of wide words weigh most (docs/AIGER.md)"),
+    AIGER: aiger_fault, WEIGHT: said(cited("a bit-level circuit may have a weight of 1,000,000: products and shifts of wide words weigh most (docs/AIGER.md)")),
     SITE: no_reshape, RESET: no_reset, NAMES: not_text,
 }
 

@@ -3,6 +3,7 @@ from dataclasses import dataclass, field
 
 from safl_explain.hints import nearest
 from safl_explain.report import counted
+from safl_tools.documents import cited
 
 COUNTS, LIMIT, SIZE = (0, 2**64 - 1), (1, 10**9), (1, 900)
 
@@ -36,7 +37,7 @@ FORMS = {
     "aigstat": Form(("FILE",)),
 }
 RANGES = {"L": LIMIT, "N": LIMIT, "SEED": COUNTS, "K": COUNTS, "COUNT": SIZE}
-MANUAL = "the help is `man safl`; docs/COMMANDS.md has an example of each command"
+MANUAL = cited("the help is `man safl`; docs/COMMANDS.md has an example of each command")
 
 
 def usage(verb):

@@ -3,6 +3,7 @@ import re
 
 from safl_explain.hints import nearest
 from safl_explain.report import Report, Spot, counted, listed
+from safl_tools.documents import cited
 
 TOKEN = re.compile(r"[A-Za-z_][\w$]*|\d+'[dhb][0-9a-fA-F]+|\d+|==|!=|<=|>=|<<|>>|\S", re.ASCII)
 COMMENT = re.compile(r"//[^\n]*|/\*.*?\*/", re.S)
@@ -15,7 +16,7 @@ OUTSIDE = {
     "begin": "there are no blocks: each register has an `always` of its own", "(": "an expression is one operator on names: name each part by a wire",
     "!": "`!a` is not read; compare with a wire that is 0", "/": "there is no division", "%": "there is no remainder",
 }
-SUBSET = "only what `safl build` writes is read, and a little more: see docs/VERILOG.md"
+SUBSET = cited("only what `safl build` writes is read, and a little more: see docs/VERILOG.md")
 
 
 def blanked(text):

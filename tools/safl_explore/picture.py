@@ -60,6 +60,7 @@ def drawn(name, source, spots, named, axis_names):
     axes.set(xlabel=axis_names[0], ylabel=axis_names[1])
     axes.set_title(one_line(os.path.basename(source)), parse_math=False)
     axes.legend()
+    figure.tight_layout()
     figure.canvas.draw()
     labels(named, axes)
     with io.BytesIO() as file:
