@@ -30,7 +30,7 @@ def clauses_of(lines):
             name, number, clauses = found[1], place, []
         elif BEGINS.match(line):
             clauses.append(stripped)
-        elif clauses and stripped == "{" or stripped.startswith("}"):
+        elif clauses and stripped == "{" or stripped.startswith(("}", "ghost ")):
             yield name, number, clauses
             clauses = []
         elif clauses and not stripped.startswith("//"):

@@ -1,8 +1,9 @@
 #!/usr/bin/env python3
 """Checks that the documents have the numbers that the repository has, and no other ones: a row of docs/CRATES.md for each crate; the
 cases by file, in docs/CASES.md, and of all, there and in README.md; the definitions that the contract of
-`run` reaches, in docs/TRUSTED.md, as scripts/trusted.py prints them, and their number in README.md; and README.md's figures of size
-and speed, which have to be those of the tables of docs/SPEED.md and of examples/by_hand/figures.json. Also checks that no link leads nowhere (scripts/links.py). --write
+`run` reaches, in docs/TRUSTED.md, as scripts/trusted.py prints them, and their number in README.md; how much the clauses reach that are a
+sentence for one command each, in docs/THEOREMS.md and README.md; and README.md's figures of size and speed, which have to be those of the
+tables of docs/SPEED.md and of examples/by_hand/figures.json. Also checks that no link leads nowhere (scripts/links.py). --write
 puts the numbers into the documents; what is then still missing is printed."""
 import json
 import re
@@ -93,6 +94,33 @@ def definitions(readme, page):
         yield f"README.md does not say '{trusted.in_words()}'"
 
 
+def said_of_clauses():
+    """For README.md and docs/THEOREMS.md the pattern and the text of each number of lines that a clause of `run` reaches."""
+    rows = re.findall(r"^\| `(\w+)` \| \S+ \| (\S+) \| (\S+) \|$", trusted.tables()[1], re.M)
+    reached = {name: (lines, files) for name, lines, files in rows}
+    lines, files = reached["headline"]
+    yield "README.md", r"[\d,]+( lines for the promise on `build`)", rf"{lines}\1"
+    yield "docs/THEOREMS.md", r"in [\d,]+ lines of \d+ files( \(`scripts/trusted.py --of headline`)", rf"in {lines} lines of {files} files\1"
+    for name in ("check", "sim", "session", "aig"):
+        yield "docs/THEOREMS.md", rf"^(\| `{name}` \|.*\|) [\d,]+ \|$", rf"\1 {reached[name][0]} |"
+
+
+def lines_by_subject(page):
+    """The sum of the lines that the table of the headline has for each subject."""
+    table = re.search(r"^\| what \| definitions \| what they say \| lines \|\n\|.*\n((?:\|.*\n)+)", page, re.M)[1]
+    return sum(int(cells_of(row)[-1]) for row in table.splitlines())
+
+
+def of_clauses():
+    for name, pattern, wanted in said_of_clauses():
+        said = re.search(pattern, text(name), re.M)
+        if not said or said.expand(wanted) != said[0]:
+            yield f"{name} has another number of lines than a clause reaches: '{said[0] if said else pattern}' (--write mends it)"
+    total = f"{lines_by_subject(text('docs/THEOREMS.md')):,}"
+    if f"in {total} lines of" not in text("docs/THEOREMS.md"):
+        yield f"docs/THEOREMS.md: the lines of the headline by subject are {total} in all"
+
+
 def missing():
     readme, rows, page = text("README.md"), text("docs/CRATES.md"), text("docs/CASES.md")
     by_file, total = cases()
@@ -106,6 +134,7 @@ def missing():
         if not in_table(page, name, number):
             yield f"docs/CASES.md does not say that {name} has {number} cases"
     yield from definitions(readme, text("docs/TRUSTED.md"))
+    yield from of_clauses()
     for _, line in figures(text("docs/SPEED.md")):
         if line not in readme:
             yield f"README.md does not say '{line}', as the figures are"
@@ -115,6 +144,8 @@ def missing():
 def put():
     """Puts the numbers into the documents."""
     trusted.put()
+    for name, pattern, wanted in said_of_clauses():
+        write(f"{TOP}/{name}", re.sub(pattern, wanted, text(name), flags=re.M))
     readme, total = text("README.md"), f"{cases()[1]:,} cases"
     for what, line in figures(text("docs/SPEED.md")):
         readme = re.sub(rf"^\| {re.escape(what)} \|.*$", lambda _, line=line: line, readme, flags=re.M)

@@ -221,6 +221,14 @@ def pipes_written(room):
     room.row('"$S" build p /dev/null', 0)
 
 
+def replies_at_once(room):
+    """A session sends the line of each reply before the next call is made, here one that has no end."""
+    written(room.folder, "spin", "fun main(x:8):8 = if x == 0 then 1 else main(x)\n")
+    written(room.folder, "spins", "0\n1\n")
+    line = 'rm -f q; mkfifo q; "$S" session spin spins --cycles 1000000000 >q & head -n 1 q; s=$?; kill $!; exit $s'
+    room.row(line, 0, b"1 2\n")
+
+
 def padded(number):
     """A source of more bytes than one read takes, which gives this number eleven times if it is read as a whole."""
     return f"fun f():8 = {number} // {'.' * 900_000}\nfun main():8 = f() + {10 * number}\n"
@@ -350,7 +358,7 @@ def main():
     begun = time.monotonic()
     with tempfile.TemporaryDirectory() as folder:
         room = furnished(folder, program)
-        for part in (closed, pipes_read, pipes_written, replaced, limits, full, unprivileged, names):
+        for part in (closed, pipes_read, pipes_written, replies_at_once, replaced, limits, full, unprivileged, names):
             part(room)
     skipped = "".join(f", SKIPPED {what}" for what in room.skipped)
     print(f"edges: {room.runs} runs, {room.faults} faults, {time.monotonic() - begun:.0f} s{skipped}")

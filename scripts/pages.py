@@ -4,7 +4,7 @@ import os
 import faster
 from files import TOP
 from gallery import ALL_PUBLIC, PUBLIC, SUBJECTS, WAVES
-from measured import DEVICE_NAME, DSP_BLOCKS, DSP_DEVICE_NAME
+from measured import DEVICE_NAME, DSP_BLOCKS, DSP_DEVICE_NAME, NONE
 
 HEXADECIMAL_FROM = 256  # a number from here on is written in hexadecimal too
 PLACED = (
@@ -142,11 +142,16 @@ def dsp_lines(example, store):
     for version, text, _ in versions_of(example):
         figures = store.figures(example.name, version, text)
         if figures and figures.dsp:
-            rows.append((NAMES[version], *(f"{figures.dsp[name]:,}" for name in ("luts", "flip-flops", "dsp blocks"))))
+            rows.append((NAMES[version], *dsp_cells(figures.dsp)))
     if not rows:
         return []
     what = f"On a device with DSP blocks, as the {DSP_DEVICE_NAME}, which has {DSP_BLOCKS} (`safl-place --dsp`):"
     return [what, ""] + table(("circuit", "LUTs", "flip-flops", "DSP blocks"), rows) + [""]
+
+
+def dsp_cells(dsp):
+    """The counts as cells of a table; where there are none, the first cell says why."""
+    return (f"none: {dsp[NONE]}", "", "") if NONE in dsp else tuple(f"{dsp[name]:,}" for name in ("luts", "flip-flops", "dsp blocks"))
 
 
 def cells_of(figures):
@@ -209,6 +214,12 @@ def secret_cell(example):
     return f"all but {', '.join(f'`{name}`' for name in public)}" if public else "all"
 
 
+def blocks_cell(figures):
+    """The LUTs and the DSP blocks in one cell."""
+    luts, _, blocks = dsp_cells(figures.dsp) if figures and figures.dsp else ("", "", "")
+    return f"{luts} and {blocks}" if blocks else luts
+
+
 def index_block(examples, store):
     """The table of all examples by subject."""
     by_name = {example.name: example for example in examples}
@@ -219,11 +230,10 @@ def index_block(examples, store):
             example = by_name[name]
             figures = store.figures(name, "as written", example.source)
             luts, flops, mhz = cells_of(figures)
-            dsp = f"{figures.dsp['luts']:,} and {figures.dsp['dsp blocks']}" if figures and figures.dsp else ""
             shared = ", ".join(f"`{example.circuit.unit_name(group)}`" for group in sorted(example.circuit.plan.arbiters))
             title, cycles = f"[{example.title}]({name}/README.md)", span([row.cycle for row in example.rows])
             spans = span([row.span for row in example.rows])
-            rows.append((title, shared, cycles, spans, secret_cell(example), luts, flops, dsp, mhz, by_hand_cell(example, store)))
+            rows.append((title, shared, cycles, spans, secret_cell(example), luts, flops, blocks_cell(figures), mhz, by_hand_cell(example, store)))
         head = ("circuit", "shared unit", "cycles", "span", "constant time for", "LUTs", "flip-flops", "LUTs and DSP blocks", "MHz", "by hand")
         lines += [f"### {subject}", ""] + table(head, rows) + [""]
     what = f"LUTs and DSP blocks are those on an {DSP_DEVICE_NAME}, which has {DSP_BLOCKS} such blocks, of the circuits that take any."

@@ -1,6 +1,6 @@
-"""The built program: where it is, how it is built if it is missing, and how calls of it end.
+"""The built programs: where they are, how one is built if it is missing, and how calls of it end.
 
-It is crates/safl/out/safl, as the gate leaves it, or SAFL names another one.
+They are crates/safl/out/safl and crates/safl_time/out/safl_time, as the gate leaves them, or SAFL and SAFL_TIME name others.
 """
 import os
 import shutil
@@ -23,7 +23,7 @@ def program_of(variable, crate):
     return os.path.abspath(os.environ.get(variable, f"{TOP}/crates/{crate}/out/{crate}"))
 
 
-PROGRAM = program_of("SAFL", "safl")
+PROGRAM, TIMER = program_of("SAFL", "safl"), program_of("SAFL_TIME", "safl_time")
 
 
 def is_there(program):

@@ -9,7 +9,7 @@ import tempfile
 
 from files import TOP, written
 from given import a_number, parser
-from program import built, program_of, told
+from program import TIMER, built, told
 
 sys.path.insert(0, f"{TOP}/scripts/oracle")
 import generator  # noqa: E402
@@ -18,7 +18,6 @@ from circuit import Circuit  # noqa: E402
 from gallery import PAGES  # noqa: E402
 from span import timing_text  # noqa: E402
 
-TIME = program_of("SAFL_TIME", "safl_time")
 CYCLES = 1_000_000
 FUNCTIONS_MAX = 30
 
@@ -59,7 +58,7 @@ class Comparison:
 
     def compare(self, path, numbers):
         args = [str(number) for number in numbers]
-        timed = told([TIME, path, *args])
+        timed = told([TIMER, path, *args])
         wanted = timing_text(*self.circuit(path), numbers)
         self.runs += 1
         if (timed.returncode, timed.stdout) != (0, wanted):

@@ -2,9 +2,9 @@
 """Runs the commands of the documents, and compares what they print with the page.
 
 The pages are those of PAGES, or the ones that are named. The program is $SAFL, or crates/safl/out/safl, which is built if it is
-missing. All commands of a page run in one temporary folder, in which the program is called safl, `examples` is the repository's
-folder, and what tools/ has can be called by its name; PONGURIKE names the folder of the repository. --write puts what the
-commands print into the pages, and what they make into the files of docs/tutorial/.
+missing. All commands of a page run in one temporary folder, in which the program is called safl, `examples` and `docs` are the
+repository's folders, and what tools/ has can be called by its name; PONGURIKE names the folder of the repository. --write puts
+what the commands print into the pages, and what they make into the files of docs/tutorial/.
 
 The first line of a block says what it is:
 
@@ -118,7 +118,8 @@ class Run:
         os.makedirs(f"{folder}/bin")
         os.makedirs(self.folder)
         os.symlink(program, f"{folder}/bin/safl")
-        os.symlink(f"{TOP}/examples", f"{self.folder}/examples")
+        for name in ("examples", "docs"):
+            os.symlink(f"{TOP}/{name}", f"{self.folder}/{name}")
         for tool in os.listdir(f"{TOP}/tools") if os.path.isdir(f"{TOP}/tools") else []:
             if os.access(f"{TOP}/tools/{tool}", os.X_OK) and tool.startswith("safl-"):
                 os.symlink(f"{TOP}/tools/{tool}", f"{folder}/bin/{tool.removesuffix('.py')}")
