@@ -78,7 +78,12 @@ One line of a definition that the contract of `run` reaches ([TRUSTED](TRUSTED.m
 TRIED_BY_TOOL = """\
 ## Bodies by the tool
 
-`rt plant` puts a wrong body in place of a whole function: one that gives up, or one that calls the function and changes an argument or the result. *Accepted* plants meet the contract; *same* ones too, where the contract shows that the answer is the same. *Elsewhere* and *not judged* are no fair test, by the tool's own account. Functions are *untested* where no plant that gives up can be judged, and have *no ensures* where any body passes.
+`rt plant` puts a wrong body in place of a whole function: one that gives up, or one that calls the function and changes an argument or the result.
+
+"""
+
+COLUMNS = """\
+*Accepted* bodies meet the contract; *same* ones too, where the contract shows that the answer is the same. *Elsewhere* and *not judged* tell nothing of the contract. A function is *untested* where no body that gives up can be judged, and has *no ensures* where any body passes.
 
 """
 
@@ -172,8 +177,10 @@ def tool_part(data, crates):
     rows = [[entry["crate"], *(entry["counts"].get(name, 0) for name in TOOL)] for entry in data.kept["tool"]]
     known = {entry["crate"] for entry in data.kept["tool"]}
     left = ", ".join(crate for crate in crates if crate not in known)
+    if not rows:
+        return TRIED_BY_TOOL + "No crate was tried in this way yet.\n"
     ends = f"Not yet tried in this way: {left}.\n" if left else "All crates with code were tried in this way.\n"
-    return TRIED_BY_TOOL + (table(["crate", *TOOL.values()], rows) if rows else "") + ends
+    return TRIED_BY_TOOL + COLUMNS + table(["crate", *TOOL.values()], rows) + ends
 
 
 def page(data, crates, each, definitions):
