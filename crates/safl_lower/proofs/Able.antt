@@ -1,29 +1,15 @@
 -- What the calls for the parts of a term require.
+use Rattle.safl_lower.proofs.Common.{AreSources, Grows, IsSource, Lowered, LoweredAll, Netlist, Out, Primitive, Program, ReadyAt, Sig}
+use Rattle.safl_lower.proofs.Common.{SiteTable, fits_all_le, get_some, grows_on, nodes_in, result_width}
 use Rattle.std.proofs.Common.{◌≡◌, ℕ, suc, ◌+◌, ◌-◌, ◌<◌, Bool, false, List, [], ◌∷◌, ◌++◌, length, Some, refl, sym, ap, subst, ◌∙◌, arith}
-use Rattle.safl_word.specs.declared.primitive.Primitive.{Primitive}
-use Rattle.safl_word.specs.Primitives.{result_width}
-use Rattle.safl_word.proofs.Lists.{get_some}
-use Rattle.safl_term.specs.Program.{Program}
 use Rattle.safl_term.specs.Terms.{Term, Var, Op, If, Let, Call, Loop, Terms, Nil, Cons}
 use Rattle.safl_term.specs.WellFormed.{SpansAll, HasWidth, HaveWidths}
-use Rattle.safl_term.proofs.Places.{fits_all_le}
-use Rattle.safl_net.specs.declared.cell.Sig.{Sig}
-use Rattle.safl_net.specs.Netlist.{Netlist}
-use Rattle.safl_net.specs.Growth.{Grows}
-use Rattle.safl_net.proofs.Growth.{grows_on}
-use Rattle.safl_lower.specs.declared.lowered.SiteTable.{SiteTable}
-use Rattle.safl_lower.specs.declared.lowered.Lowered.{Lowered}
-use Rattle.safl_lower.specs.declared.lowered.LoweredAll.{LoweredAll}
-use Rattle.safl_lower.specs.declared.lowered.Out.{Out}
-use Rattle.safl_lower.specs.Bits.{ReadyAt}
-use Rattle.safl_term.specs.Sizes.{nodes_in}
 use Rattle.safl_lower.specs.Typing.{Owner, Typed, TypedAll}
 use Rattle.safl_lower.specs.Lowering.{Sited, Setting, Lowerable, LowerableAll, HasPorts, Shaped, Lowers, LowersAll, ShowsPort}
 use Rattle.safl_lower.proofs.Kept.{sited_kept, setting_on, setting_kept, setting_below}
 use Rattle.safl_lower.proofs.Typing.{test_typed, yes_typed, no_typed, bound_typed, body_typed, parts_typed, args_typed, next_typed}
 use Rattle.safl_lower.proofs.Leaves.{slot_within}
 use Rattle.safl_lower.proofs.Branches.{Branches, Inner}
-use Rattle.safl_lower.specs.Sources.{IsSource, AreSources}
 use Rattle.safl_lower.proofs.Building.{source_grown, sources_grown}
 
 module _ {P : SiteTable} {slots : List Sig} {path : Sig} {n0 : Netlist} where

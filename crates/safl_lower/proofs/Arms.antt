@@ -1,10 +1,8 @@
 -- How the circuits of parts make the circuit of a term: pure facts on options and bits.
+use Rattle.safl_lower.proofs.Common.{Word, choose, gate, or_else_none}
 use Rattle.std.proofs.Common.{◌≡◌, List, [], ◌∷◌, ◌++◌, Option, Some, None, Bool, true, false, not, ◌&&◌, cond, ◌==◌, refl, sym, ap, ◌∙◌}
 use Rattle.std.proofs.lemmas.Option.{same_Some}
-use Rattle.safl_word.specs.Words.{Word, choose}
 use Rattle.safl_term.specs.Readiness.{Answer, Ready, LoopTo, NotYet, word_of, select, with_all, or_else}
-use Rattle.safl_term.proofs.OrElse.{or_else_none}
-use Rattle.safl_net.specs.Bits.{gate}
 use Rattle.safl_lower.proofs.BitWords.{choose_is}
 
 -- ---- options

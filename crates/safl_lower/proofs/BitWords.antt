@@ -1,16 +1,10 @@
 -- What gates say of bits.
+use Rattle.safl_lower.proofs.Common.{Netlist, Sig, Word, choose, fits, ne_eqb, on, pick, wired_before, word_eq}
 use Rattle.std.proofs.Common.{◌≡◌, ℕ, T, zero, suc, ◌<◌, [], ◌∷◌, Some, Bool, true, false, not, ◌&&◌, ◌||◌, cond, ◌==◌, Result, Ok, Err, IfOk, refl, sym, ap, ◌∙◌, arith}
 use Rattle.std.proofs.Math.Dec.{eqb_refl}
-use Rattle.std.proofs.lemmas.Bool.{ne_eqb}
-use Rattle.safl_word.specs.Words.{Word, pick, choose}
 use Rattle.safl_word.specs.Primitives.{apply_prim, bit_of}
 use Rattle.safl_word.specs.declared.primitive.Primitive.TheVariants.{And, Not, Or}
-use Rattle.safl_word.proofs.Words.{word_eq}
-use Rattle.safl_net.specs.declared.cell.Sig.{Sig}
-use Rattle.safl_net.specs.Netlist.{Netlist}
 use Rattle.safl_net.specs.Growth.{Val, words, Wired, width_at, Grows}
-use Rattle.safl_net.proofs.Growth.{fits, wired_before}
-use Rattle.safl_net.specs.Bits.{on}
 
 a_bit : Bool → Word
 a_bit b = record { width = 1; bits = bit_of b }

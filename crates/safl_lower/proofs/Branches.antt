@@ -1,25 +1,10 @@
 -- The circuit of a branch and of a let from the circuits of its parts.
+use Rattle.safl_lower.proofs.Common.{Grows, IsSource, Lowered, LoweredAll, Netlist, Never, Out, Readiness, ReadyAt, Settles, Sig, SiteTable}
+use Rattle.safl_lower.proofs.Common.{TailCall, Val, Wired, Word, and-true, gate, grows_on, holds_calls, is_ready, on, or_else_assoc}
+use Rattle.safl_lower.proofs.Common.{pick_ap, settles_on, sites_in, sites_of, tails_of, wired_before, words}
 use Rattle.std.proofs.Common.{◌≡◌, ℕ, ◌+◌, ◌≤◌, List, ◌++◌, map, length, Option, Some, None, Bool, true, false, not, ◌&&◌, cond, ◌==◌, ◌⊎◌, ◌↔◌, refl, sym, ap, subst, ◌∙◌, ⊎_elim, inr, arith}
-use Rattle.std.proofs.Math.Bool.{and-true}
-use Rattle.safl_word.specs.Words.{Word}
-use Rattle.safl_word.proofs.Words.{pick_ap}
 use Rattle.safl_term.specs.Terms.{Term, If, Let, Terms}
 use Rattle.safl_term.specs.Readiness.{Answer, Ready, LoopTo, NotYet, word_of, select, with_all, or_else, answer, answers, wanted, wanted_in}
-use Rattle.safl_term.proofs.OrElse.{or_else_assoc}
-use Rattle.safl_net.specs.declared.cell.Sig.{Sig}
-use Rattle.safl_net.specs.Netlist.{Netlist}
-use Rattle.safl_net.specs.Growth.{Val, words, Wired, Grows}
-use Rattle.safl_net.proofs.Growth.{grows_on, wired_before}
-use Rattle.safl_lower.specs.declared.lowered.Readiness.{Readiness}
-use Rattle.safl_lower.specs.declared.lowered.Readiness.TheVariants.{Never}
-use Rattle.safl_lower.specs.declared.lowered.SiteTable.{SiteTable}
-use Rattle.safl_lower.specs.declared.lowered.Lowered.{Lowered}
-use Rattle.safl_lower.specs.declared.lowered.LoweredAll.{LoweredAll}
-use Rattle.safl_lower.specs.declared.lowered.Out.{Out}
-use Rattle.safl_lower.specs.declared.lowered.TailCall.{TailCall}
-use Rattle.safl_net.specs.Bits.{on, gate}
-use Rattle.safl_lower.specs.Bits.{is_ready, ReadyAt}
-use Rattle.safl_lower.specs.Typing.{sites_of, sites_in, tails_of, holds_calls}
 use Rattle.safl_lower.specs.Entries.{asked, went, Told, site_of, member_of, cost}
 use Rattle.safl_lower.specs.Lowering.{back_of, sent_of, gives, goes_of, Shaped, Lowers, LowersAll}
 use Rattle.safl_lower.proofs.Arms.{gate_or, gate_none, if_value, if_wants, let_value, let_wants}
@@ -27,10 +12,7 @@ use Rattle.safl_lower.proofs.Kept.{shaped_kept, setting_on, setting_below}
 use Rattle.safl_lower.proofs.Typing.{test_typed, yes_typed, no_typed, bound_typed, body_typed}
 use Rattle.safl_lower.proofs.Quiet.{no_wants, no_going}
 use Rattle.safl_lower.proofs.Gathered.{words_more, stays, no_goes, more_twice, out_kept, told_by, told_more, never_is, gate_is_none, if_first, if_second, let_second, mates_same}
-use Rattle.safl_lower.specs.Sources.{IsSource}
-use Rattle.safl_net.specs.Settled.{Settles}
 use Rattle.safl_lower.proofs.Building.{source_grown, sources_grown}
-use Rattle.safl_net.proofs.Settling.{settles_on}
 
 -- ---- an if
 

@@ -1,12 +1,8 @@
 -- Nets that are built on nets.
+use Rattle.safl_lower.proofs.Common.{AreSources, Builds, Grows, IsSource, IsTidy, Netlist, Sig}
 use Rattle.std.proofs.Common.{◌≡◌, ℕ, ◌+◌, ◌≤◌, List, ◌++◌, length, ap, sym, subst, arith}
-use Rattle.safl_net.specs.declared.cell.Sig.{Sig}
-use Rattle.safl_net.specs.Netlist.{Netlist}
-use Rattle.safl_net.specs.Names.{IsTidy}
-use Rattle.safl_net.specs.Growth.{Grows}
 use Rattle.safl_net.proofs.Growth.{grows_on, grows_same, width_kept, sized_kept, sized_more}
 use Rattle.safl_net.proofs.Settling.{settles_same, settles_on, are_steady_on, steady_grown, are_steady_grown, are_steady_more}
-use Rattle.safl_lower.specs.Sources.{IsSource, AreSources, Builds}
 
 pub builds_same : (n m : Netlist) → IsTidy n → m ≡ n → (most : ℕ) → Builds n m most
 builds_same n m t e most = record {

@@ -1,41 +1,18 @@
 -- The circuits of a call and of a tail call.
+use Rattle.safl_lower.proofs.Common.{AreSources, Grows, Lowered, LoweredAll, Netlist, Never, Out, Owner, Program, Readiness, ReadyAt}
+use Rattle.safl_lower.proofs.Common.{Settles, Sig, SiteTable, Spans, SpansAll, TailCall, Typed, Val, When, Wired, Word, eqb_yes, false_true}
+use Rattle.safl_lower.proofs.Common.{fits_all_le, fits_le, gate, grows_on, is_ready, map_push, ne_eqb, neither, nil_at_end, on}
+use Rattle.safl_lower.proofs.Common.{or_else_assoc, or_else_none, settles_on, sites_in, wired_before, with_none, words}
 use Rattle.std.proofs.Common.{◌≡◌, ℕ, suc, ◌+◌, ◌<◌, ◌≤◌, List, [], ◌∷◌, ◌++◌, map, length, Option, Some, None, Bool, true, false, not, ◌&&◌, cond, ◌==◌, T, refl, sym, ap, subst, ◌∙◌, arith}
-use Rattle.std.proofs.Math.Facts.{eqb_yes}
-use Rattle.std.proofs.lemmas.Bool.{ne_eqb}
-use Rattle.std.proofs.lemmas.List.{map_push}
-use Rattle.safl_term.specs.Program.{Program}
-use Rattle.safl_term.specs.WellFormed.{Spans, SpansAll}
-use Rattle.safl_term.proofs.Places.{fits_le, fits_all_le}
-use Rattle.safl_word.specs.Words.{Word}
-use Rattle.safl_word.proofs.Lists.{nil_at_end}
-use Rattle.safl_word.proofs.Booleans.{false_true}
 use Rattle.safl_term.specs.Terms.{Term, Const, Var, Op, If, Let, Call, Loop, Terms, Nil, Cons}
 use Rattle.safl_term.specs.Readiness.{Answer, Ready, LoopTo, NotYet, loop_to, select, with_all, or_else, answer, answers, wanted, wanted_in}
-use Rattle.safl_term.proofs.OrElse.{neither, or_else_assoc, or_else_none, with_none}
 use Rattle.safl_term.proofs.PlainTerms.{loop_word, shown_call}
-use Rattle.safl_net.specs.declared.cell.Sig.{Sig}
-use Rattle.safl_net.specs.Netlist.{Netlist}
-use Rattle.safl_net.specs.Growth.{Val, words, Wired, Grows}
-use Rattle.safl_net.proofs.Growth.{grows_on, wired_before}
-use Rattle.safl_lower.specs.declared.lowered.Readiness.{Readiness}
-use Rattle.safl_lower.specs.declared.lowered.Readiness.TheVariants.{Never, When}
-use Rattle.safl_lower.specs.declared.lowered.SiteTable.{SiteTable}
-use Rattle.safl_lower.specs.declared.lowered.Lowered.{Lowered}
-use Rattle.safl_lower.specs.declared.lowered.LoweredAll.{LoweredAll}
-use Rattle.safl_lower.specs.declared.lowered.Out.{Out}
-use Rattle.safl_lower.specs.declared.lowered.TailCall.{TailCall}
-use Rattle.safl_net.specs.Bits.{on, gate}
-use Rattle.safl_lower.specs.Bits.{is_ready, ReadyAt}
-use Rattle.safl_lower.specs.Typing.{Owner, Typed, sites_in}
 use Rattle.safl_lower.specs.Entries.{asked, went, site_of, member_of, Mates, WantsFit, LoopsFit, cost}
 use Rattle.safl_lower.specs.Lowering.{returned_word, back_of, sent_of, open_at, gives, gathered, goes_of, Setting, Shaped, Lowers, LowersAll, ShowsPort, goes_with, Enters, Leaves}
 use Rattle.safl_lower.proofs.Arms.{gate_or, gate_none}
 use Rattle.safl_lower.proofs.Kept.{shaped_all_kept}
 use Rattle.safl_lower.proofs.Typing.{args_typed, next_typed}
 use Rattle.safl_lower.proofs.Gathered.{stays_by, pick_none, more_twice, out_kept, wants_end, loops_end, told_by, told_more, never_is, taken_tells, cost_end, mates_end, mates_same}
-use Rattle.safl_lower.specs.Sources.{AreSources}
-use Rattle.safl_net.specs.Settled.{Settles}
-use Rattle.safl_net.proofs.Settling.{settles_on}
 use Rattle.safl_lower.proofs.Goes.{goes_call}
 
 -- ---- no site below the term's is wanted

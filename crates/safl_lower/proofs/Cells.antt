@@ -1,20 +1,14 @@
 -- What a new temporary adds to a net.
+use Rattle.safl_lower.proofs.Common.{AreSources, Builds, IsSource, IsTidy, Netlist, Sig, Word, on, op_width}
 use Rattle.std.proofs.Common.{◌≡◌, ℕ, List, [], ◌∷◌, ◌++◌, true, false, subst, Some, Bool, not, cond, Result, Ok, Err, IfOk, OnOk, OnErr, length}
 use Rattle.std.proofs.Common.{take, slice_get, suc, zero, ◌+◌, refl, ap, sym, ◌∙◌, add-one, arith}
-use Rattle.safl_net.specs.declared.cell.Sig.{Sig}
 use Rattle.safl_net.specs.declared.cell.Op.{Op}
-use Rattle.safl_net.specs.Netlist.{Netlist}
-use Rattle.safl_net.specs.Names.{IsTidy}
 use Rattle.safl_net.specs.Making.{with_signal, temporary}
-use Rattle.safl_net.specs.Widths.{op_width}
 use Rattle.safl_net.specs.Growth.{Val, words, Wired, width_at}
 use Rattle.safl_net.specs.Settled.{AreSteady, Settles}
 use Rattle.safl_net.proofs.Growth.{Made, made, sized_gives}
 use Rattle.safl_net.proofs.Settling.{settles_temp, settles_same, steady_new}
-use Rattle.safl_word.specs.Words.{Word}
 use Rattle.safl_net.proofs.Growth.{wired_before}
-use Rattle.safl_net.specs.Bits.{on}
-use Rattle.safl_lower.specs.Sources.{IsSource, AreSources, Builds}
 
 settles_made : {E : Type 0} (n m : Netlist) (r : Result Sig E) (op : Op) (xs : List Sig) → AreSteady n xs → OnOk r (m ≡ with_signal n (temporary n op xs)) → OnErr r (m ≡ n) → Settles n m
 settles_made n m (Ok s) op xs h a b = settles_temp n m op xs h a

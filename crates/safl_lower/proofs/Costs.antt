@@ -1,15 +1,12 @@
 -- What tables of loads cost, and what another load changes at most.
+use Rattle.safl_lower.proofs.Common.{AreSources, Load, Netlist, Sig}
 use Rattle.std.proofs.Common.{◌≡◌, ℕ, zero, suc, ◌+◌, ◌≤◌, List, [], ◌∷◌, length, take, Option, Some, None, Bool, true, false, cond, ◌==◌, slice_get, refl, sym, ap, subst, ◌∙◌, arith}
 use Rattle.std.proofs.lemmas.Bool.{eq-eqb, ne_eqb, eqb-true}
-use Rattle.safl_net.specs.declared.cell.Sig.{Sig}
-use Rattle.safl_net.specs.Netlist.{Netlist}
-use Rattle.safl_lower.specs.declared.loads.Load.{Load}
-use Rattle.safl_lower.specs.Sources.{AreSources}
-use Rattle.safl_lower.specs.Tables.{load_in, FitsIn, LoadFits, SomeFit}
+use Rattle.safl_lower.specs.Tables.{entry_in, FitsIn, LoadFits, SomeFit}
 use Rattle.safl_lower.proofs.Cells.{sources_length}
 use Rattle.safl_lower.specs.Loads.{load_cost, loads_cost}
 
-pub no_cost : (xs : List (Option Load)) → ((i : ℕ) → load_in (slice_get xs i) ≡ None) → loads_cost xs ≡ 0
+pub no_cost : (xs : List (Option Load)) → ((i : ℕ) → entry_in (slice_get xs i) ≡ None) → loads_cost xs ≡ 0
 no_cost [] h = refl
 no_cost (x ∷ xs) h =
     let a : load_cost x ≡ 0 = ap load_cost (h 0) in
@@ -48,33 +45,33 @@ with_widths ws i us k = cond (k == i) us (ws k)
 module _ (n m : Netlist) (xs ys : List (Option Load)) (own : List Sig) (p : ℕ)
     (fit : (us : ℕ → List ℕ) → SomeFit n xs us → AreSources n own (us p) → SomeFit m ys us)
     (ws : ℕ → List ℕ) (before : SomeFit n xs ws) (sized : AreSources n own (ws p)) where
-  fits_with : (i : ℕ) → load_in (slice_get xs i) ≡ None → (us : List ℕ) (k : ℕ) (t : Bool) → (k == i) ≡ t → FitsIn n (load_in (slice_get xs k)) (cond t us (ws k))
-  fits_with i e us k true t = subst (λ (o : Option Load). FitsIn n o us) (sym (ap (λ (j : ℕ). load_in (slice_get xs j)) (eqb-true k i t) ∙ e)) tt
+  fits_with : (i : ℕ) → entry_in (slice_get xs i) ≡ None → (us : List ℕ) (k : ℕ) (t : Bool) → (k == i) ≡ t → FitsIn n (entry_in (slice_get xs k)) (cond t us (ws k))
+  fits_with i e us k true t = subst (λ (o : Option Load). FitsIn n o us) (sym (ap (λ (j : ℕ). entry_in (slice_get xs j)) (eqb-true k i t) ∙ e)) tt
   fits_with i e us k false t = before k
 
-  any_fits : (i : ℕ) → (i ≡ p → ⊥) → load_in (slice_get xs i) ≡ None → (us : List ℕ) → FitsIn m (load_in (slice_get ys i)) us
+  any_fits : (i : ℕ) → (i ≡ p → ⊥) → entry_in (slice_get xs i) ≡ None → (us : List ℕ) → FitsIn m (entry_in (slice_get ys i)) us
   any_fits i d e us =
-      subst (λ (b : Bool). FitsIn m (load_in (slice_get ys i)) (cond b us (ws i))) (eq-eqb i i refl)
+      subst (λ (b : Bool). FitsIn m (entry_in (slice_get ys i)) (cond b us (ws i))) (eq-eqb i i refl)
       (fit (with_widths ws i us) (λ k. fits_with i e us k (k == i) refl)
       (subst (λ (b : Bool). AreSources n own (cond b us (ws p))) (sym (ne_eqb p i (λ s. d (sym s)))) sized) i)
 
   -- where there was none elsewhere, there is none
-  pub stays_none : (i : ℕ) → (i ≡ p → ⊥) → load_in (slice_get xs i) ≡ None → load_in (slice_get ys i) ≡ None
-  stays_none i d e = has_none m (load_in (slice_get ys i)) (any_fits i d e)
+  pub stays_none : (i : ℕ) → (i ≡ p → ⊥) → entry_in (slice_get xs i) ≡ None → entry_in (slice_get ys i) ≡ None
+  stays_none i d e = has_none m (entry_in (slice_get ys i)) (any_fits i d e)
 
-  others_by : (i : ℕ) → (i ≡ p → ⊥) → (o : Option Load) → load_in (slice_get xs i) ≡ o → load_cost (load_in (slice_get ys i)) ≤ load_cost o
+  others_by : (i : ℕ) → (i ≡ p → ⊥) → (o : Option Load) → entry_in (slice_get xs i) ≡ o → load_cost (entry_in (slice_get ys i)) ≤ load_cost o
   others_by i d None e = let z = ap load_cost (stays_none i d e) in omega (arith, z)
   others_by i d (Some l) e =
       let a = there_costs n l (ws i) (subst (λ (o : Option Load). FitsIn n o (ws i)) e (before i)) in
-      let b = fits_cost m (load_in (slice_get ys i)) (ws i) (fit ws before sized i) in
+      let b = fits_cost m (entry_in (slice_get ys i)) (ws i) (fit ws before sized i) in
       omega (arith, a, b)
 
-  others_cost : (i : ℕ) → (i ≡ p → ⊥) → load_cost (load_in (slice_get ys i)) ≤ load_cost (load_in (slice_get xs i))
-  others_cost i d = others_by i d (load_in (slice_get xs i)) refl
+  others_cost : (i : ℕ) → (i ≡ p → ⊥) → load_cost (entry_in (slice_get ys i)) ≤ load_cost (entry_in (slice_get xs i))
+  others_cost i d = others_by i d (entry_in (slice_get xs i)) refl
 
-  own_cost : load_cost (load_in (slice_get ys p)) ≤ 1 + length own
+  own_cost : load_cost (entry_in (slice_get ys p)) ≤ 1 + length own
   own_cost =
-      let a = fits_cost m (load_in (slice_get ys p)) (ws p) (fit ws before sized p) in
+      let a = fits_cost m (entry_in (slice_get ys p)) (ws p) (fit ws before sized p) in
       let b = sources_length n own (ws p) sized in
       omega (arith, a, b)
 
@@ -82,7 +79,7 @@ module _ (n m : Netlist) (xs ys : List (Option Load)) (own : List Sig) (p : ℕ)
   pub cost_more : length ys ≡ length xs → loads_cost ys ≤ loads_cost xs + (1 + length own)
   cost_more e = sums xs ys p (1 + length own) e others_cost own_cost
     where
-      no_more : (xs ys : List (Option Load)) → length ys ≡ length xs → ((i : ℕ) → load_cost (load_in (slice_get ys i)) ≤ load_cost (load_in (slice_get xs i))) → loads_cost ys ≤ loads_cost xs
+      no_more : (xs ys : List (Option Load)) → length ys ≡ length xs → ((i : ℕ) → load_cost (entry_in (slice_get ys i)) ≤ load_cost (entry_in (slice_get xs i))) → loads_cost ys ≤ loads_cost xs
       no_more [] [] e h = omega arith
       no_more [] (y ∷ ys) e h = absurd (omega (arith, e))
       no_more (x ∷ xs) [] e h = omega arith
@@ -92,7 +89,7 @@ module _ (n m : Netlist) (xs ys : List (Option Load)) (own : List Sig) (p : ℕ)
           omega (arith, a, b)
 
       sums : (xs ys : List (Option Load)) (p k : ℕ) → length ys ≡ length xs →
-          ((i : ℕ) → (i ≡ p → ⊥) → load_cost (load_in (slice_get ys i)) ≤ load_cost (load_in (slice_get xs i))) → load_cost (load_in (slice_get ys p))
+          ((i : ℕ) → (i ≡ p → ⊥) → load_cost (entry_in (slice_get ys i)) ≤ load_cost (entry_in (slice_get xs i))) → load_cost (entry_in (slice_get ys p))
           ≤ k → loads_cost ys ≤ loads_cost xs + k
       sums [] [] p k e h o = omega arith
       sums [] (y ∷ ys) p k e h o = absurd (omega (arith, e))

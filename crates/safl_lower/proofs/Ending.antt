@@ -1,13 +1,6 @@
 -- A load of one word.
+use Rattle.safl_lower.proofs.Common.{AreSources, IsSource, Load, LoadFits, Netlist, Sig, Val, Word, gate, on, one_word, taken, words}
 use Rattle.std.proofs.Common.{◌≡◌, ℕ, List, [], ◌∷◌, Some, Bool, true, false, refl, sym, ap, subst, ◌∙◌}
-use Rattle.safl_word.specs.Words.{Word}
-use Rattle.safl_net.specs.declared.cell.Sig.{Sig}
-use Rattle.safl_net.specs.Netlist.{Netlist}
-use Rattle.safl_net.specs.Growth.{Val, words}
-use Rattle.safl_net.specs.Bits.{on, gate}
-use Rattle.safl_lower.specs.declared.loads.Load.{Load}
-use Rattle.safl_lower.specs.Sources.{IsSource, AreSources}
-use Rattle.safl_lower.specs.Tables.{taken, one_word, LoadFits}
 use Rattle.safl_lower.proofs.Cells.{one_source}
 
 pub one_load_fits : {n : Netlist} {bit value : Sig} {w : ℕ} (l : Load) → l.bit ≡ bit → l.words.items ≡ value ∷ [] → IsSource n bit 1 → IsSource n value w → LoadFits n l (w ∷ [])

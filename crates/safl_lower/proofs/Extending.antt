@@ -1,18 +1,11 @@
 -- Zeros before a word.
+use Rattle.safl_lower.proofs.Common.{AreSources, IsSource, Netlist, Primitive, Sig, Word, fits, prim_width, width_max, wired_before}
 use Rattle.std.proofs.Common.{◌≡◌, ℕ, ◌+◌, ◌*◌, ◌^◌, ◌≤◌, List, [], ◌∷◌, cond, Some, None, Bool, true, false, ◌&&◌, nat_le, Result, Ok, Err, IfOk, slice_index_or, refl, ap, ◌∙◌, arith}
 use Rattle.std.proofs.lemmas.Bool.{leb-true, and_parts, le-leb}
-use Rattle.safl_word.specs.Words.{Word}
-use Rattle.safl_word.specs.Limits.{width_max}
 use Rattle.safl_word.specs.Primitives.{is_width, where_true, apply_prim, result_width}
-use Rattle.safl_word.specs.declared.primitive.Primitive.{Primitive}
 use Rattle.safl_word.proofs.Widths.{within, only_where, where_is}
 use Rattle.safl_word.specs.declared.primitive.Primitive.TheVariants.{Add, Sub, Mul, And, Or, Xor, Not, Eq, Ne, Lt, Le, Gt, Ge, Shl, Shr, Cat, Bits, Ext}
-use Rattle.safl_net.specs.declared.cell.Sig.{Sig}
-use Rattle.safl_net.specs.Netlist.{Netlist}
-use Rattle.safl_net.specs.Widths.{prim_width}
 use Rattle.safl_net.specs.Growth.{Val, words, Wired, Grows}
-use Rattle.safl_net.proofs.Growth.{fits, wired_before}
-use Rattle.safl_lower.specs.Sources.{IsSource, AreSources}
 
 -- every other primitive has a cell of its width
 pub cell_width : (p : Primitive) (ws : List ℕ) → ((x : ℕ) → p ≡ Ext x → ⊥) → prim_width p ws ≡ result_width p ws

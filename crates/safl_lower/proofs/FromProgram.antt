@@ -1,16 +1,9 @@
 -- The body of a checked program's function, and the setting in which it is lowered.
+use Rattle.safl_lower.proofs.Common.{HasRoom, Netlist, Owner, Ports, Program, Sig, SiteTable, Typed, nodes}
 use Rattle.std.proofs.Common.{◌≡◌, ℕ, suc, ◌+◌, ◌*◌, ◌<◌, List, true, refl, sym, ap, ◌∙◌, arith}
-use Rattle.safl_term.specs.Program.{Program}
 use Rattle.safl_term.specs.Terms.{Term}
-use Rattle.safl_term.specs.Sizes.{nodes}
 use Rattle.safl_term.specs.WellFormed.{IsWellFormed}
 use Rattle.safl_term.specs.Checked.{CheckedProgram, IsChecked}
-use Rattle.safl_net.specs.declared.cell.Sig.{Sig}
-use Rattle.safl_net.specs.Netlist.{Netlist}
-use Rattle.safl_lower.specs.Sources.{HasRoom}
-use Rattle.safl_lower.specs.declared.lowered.Ports.{Ports}
-use Rattle.safl_lower.specs.declared.lowered.SiteTable.{SiteTable}
-use Rattle.safl_lower.specs.Typing.{Owner, Typed}
 use Rattle.safl_lower.specs.Lowering.{Setting}
 use Rattle.safl_lower.specs.Bodies.{CanLower}
 

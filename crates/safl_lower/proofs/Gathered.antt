@@ -1,25 +1,11 @@
 -- The calls and tail calls that the parts of a term have added.
+use Rattle.safl_lower.proofs.Common.{Grows, Netlist, Out, Owner, Program, Sig, Spans, TailCall, Typed, Val, Want, Word, and-true}
+use Rattle.safl_lower.proofs.Common.{false_true, gate, goes_of, or_else_none, pick, pick_ap, words}
 use Rattle.std.proofs.Common.{◌≡◌, ℕ, zero, suc, ◌+◌, ◌<◌, List, [], ◌∷◌, ◌++◌, map, length, Option, Some, None, Bool, true, false, not, ◌&&◌}
 use Rattle.std.proofs.Common.{◌==◌, refl, sym, ap, subst, ◌∙◌, arith, append_assoc}
-use Rattle.std.proofs.Math.Bool.{and-true}
-use Rattle.safl_word.specs.Words.{Word, pick}
-use Rattle.safl_word.proofs.Booleans.{false_true}
-use Rattle.safl_word.proofs.Words.{pick_ap}
-use Rattle.safl_term.specs.Program.{Program}
 use Rattle.safl_term.specs.Terms.{Term, Const, Var, Op, If, Let, Call, Loop}
-use Rattle.safl_term.specs.WellFormed.{Spans}
 use Rattle.safl_term.specs.Readiness.{Answer, Ready, LoopTo, NotYet, word_of, apply_to, loop_to, select, with_all, or_else, answer, answers}
-use Rattle.safl_term.proofs.OrElse.{or_else_none}
-use Rattle.safl_net.specs.declared.cell.Sig.{Sig}
-use Rattle.safl_net.specs.Netlist.{Netlist}
-use Rattle.safl_net.specs.Growth.{Val, words, Grows}
-use Rattle.safl_lower.specs.declared.lowered.Out.{Out}
-use Rattle.safl_lower.specs.declared.lowered.Want.{Want}
-use Rattle.safl_lower.specs.declared.lowered.TailCall.{TailCall}
-use Rattle.safl_lower.specs.Typing.{Owner, Typed}
-use Rattle.safl_net.specs.Bits.{gate}
 use Rattle.safl_lower.specs.Entries.{Told, WantFits, LoopFits, WantsFit, LoopsFit, OutFits, member_of, Mates, cost}
-use Rattle.safl_lower.specs.Lowering.{goes_of}
 use Rattle.safl_lower.proofs.Arms.{gate_none, if_wants, let_wants}
 use Rattle.safl_lower.proofs.Building.{source_grown, sources_grown}
 use Rattle.safl_lower.proofs.Goes.{goes_call, goes_with}

@@ -1,24 +1,12 @@
 -- Tail calls merged one after another, from the first.
+use Rattle.safl_lower.proofs.Common.{AreSources, Builds, HasRoom, IsSource, IsTidy, Load, Netlist, Owner, TailCall, Val, Wired, Word, gate}
+use Rattle.safl_lower.proofs.Common.{map_push, on, option_or, or_else, take_all, take_next, wired_before, words}
 use Rattle.std.proofs.Common.{◌≡◌, ℕ, zero, suc, ◌+◌, ◌-◌, ◌<◌, ◌≤◌, List, [], ◌∷◌, ◌++◌, map, take, length, Option, Some, None, Bool, true, false}
 use Rattle.std.proofs.Common.{◌&&◌, ◌==◌, inl, inr, slice_get, refl, sym, ap, subst, ◌∙◌, arith}
 use Rattle.std.proofs.lemmas.Bool.{eq-eqb, ne_eqb, eqb-true, eqb-false}
-use Rattle.std.specs.Option.{option_or}
-use Rattle.std.proofs.lemmas.List.{map_push, take_all}
-use Rattle.safl_word.specs.Words.{Word}
-use Rattle.safl_word.proofs.Lists.{take_next}
-use Rattle.safl_term.specs.Readiness.{or_else}
 use Rattle.safl_term.proofs.OrElse.{or_else_assoc, or_else_none, or_is}
-use Rattle.safl_net.specs.Netlist.{Netlist}
-use Rattle.safl_net.specs.Names.{IsTidy}
-use Rattle.safl_net.specs.Growth.{Val, words, Wired}
-use Rattle.safl_net.specs.Bits.{on, gate}
-use Rattle.safl_net.proofs.Growth.{wired_before}
-use Rattle.safl_lower.specs.declared.loads.Load.{Load}
-use Rattle.safl_lower.specs.Sources.{IsSource, AreSources, Builds, HasRoom}
-use Rattle.safl_lower.specs.Tables.{taken_in, taken_from, load_in, SomeFit}
+use Rattle.safl_lower.specs.Tables.{taken_in, taken_from, entry_in, SomeFit}
 use Rattle.safl_lower.proofs.Building.{builds_same, builds_on, builds_within, source_kept, sources_kept}
-use Rattle.safl_lower.specs.declared.lowered.TailCall.{TailCall}
-use Rattle.safl_lower.specs.Typing.{Owner}
 use Rattle.safl_lower.specs.Entries.{member_of, Between, LoopFits, LoopsFit, cost}
 use Rattle.safl_lower.specs.Loads.{Listed, member_widths, taken_to, loads_cost, Merged}
 use Rattle.safl_lower.proofs.Gathered.{cost_end}
@@ -73,11 +61,11 @@ pub record Merging (first count : ℕ) (old cur : Netlist) (all : List TailCall)
   pub size : length xs ≡ count
   pub fits : (F : Owner) → LoopsFit F old all → SomeFit cur xs (member_widths F first)
   pub paid : loads_cost xs ≤ cost (take j all)
-  pub idle : (i : ℕ) → ¬ Listed (first + i) (map member_of (take j all)) → load_in (slice_get xs i) ≡ None
+  pub idle : (i : ℕ) → ¬ Listed (first + i) (map member_of (take j all)) → entry_in (slice_get xs i) ≡ None
   pub told : (v : Val) → Wired cur v → (i : ℕ) → taken_from v xs i ≡ taken_to v (take j all) (first + i)
 
 pub merging_start : (first count : ℕ) (n : Netlist) → IsTidy n → (all : List TailCall) (xs : List (Option Load))
-    → length xs ≡ count → ((i : ℕ) → load_in (slice_get xs i) ≡ None) → Merging first count n n all 0 xs
+    → length xs ≡ count → ((i : ℕ) → entry_in (slice_get xs i) ≡ None) → Merging first count n n all 0 xs
 merging_start first count n t all xs e h = record {
   built = builds_same n n t refl 0;
   size = e;
@@ -117,7 +105,7 @@ module _ {first count : ℕ} {old cur : Netlist} {all : List TailCall} {j : ℕ}
   module _ {new : Netlist} (ys : List (Option Load)) (F : Owner) (fit : LoopsFit F old all) (b : Builds cur new (1 + length e.args.items)) (long : length ys ≡ length xs)
       (widths : (ws : ℕ → List ℕ) → SomeFit cur xs ws → AreSources cur e.args.items (ws (e.member - first)) → SomeFit new ys ws)
       (shows : (v : Val) → Wired new v → (i : ℕ) → taken_from v ys i ≡ option_or (taken_from v xs i) (gate ((i == (e.member - first)) && on v e.taken) (Some (words v e.args.items)))) where
-    idle_by : (i : ℕ) → ¬ Listed (first + i) (map member_of (take (j + 1) all)) → load_in (slice_get ys i) ≡ None
+    idle_by : (i : ℕ) → ¬ Listed (first + i) (map member_of (take (j + 1) all)) → entry_in (slice_get ys i) ≡ None
     idle_by i unlisted =
         let split = ap (map member_of) next ∙ map_push member_of (take j all) e in
         let not_in : Listed (first + i) (map member_of (take j all) ++ e.member ∷ []) → ⊥ = λ g. unlisted (subst (Listed (first + i)) (sym split) g) in

@@ -1,9 +1,7 @@
 -- Answers of calls and of lets that go nowhere, and words that are there.
+use Rattle.safl_lower.proofs.Common.{Word, goes_of, one_word}
 use Rattle.std.proofs.Common.{List, None, Option, Some, is_some, refl, ◌≡◌}
-use Rattle.safl_word.specs.Words.{Word}
 use Rattle.safl_term.specs.Readiness.{Answer, NotYet, ready_from, with_all}
-use Rattle.safl_lower.specs.Tables.{one_word}
-use Rattle.safl_lower.specs.Lowering.{goes_of}
 
 pub goes_call : (o : Option Word) → goes_of (ready_from o) ≡ None
 goes_call None = refl

@@ -1,15 +1,13 @@
 -- Heights of gates, in nets that grow and above rows that are halved.
+use Rattle.safl_lower.proofs.Common.{Builds, Load, Sig}
 use Rattle.std.proofs.Common.{◌≡◌, ℕ, zero, suc, ◌+◌, ◌*◌, ◌<◌, ◌≤◌, ◌/◌, ◌^◌, inl, inr, List, [], ◌∷◌, ◌++◌, length, Option, Some, None, append_assoc}
 use Rattle.std.proofs.Common.{Result, Ok, Err, IfOk, OnOk, slice_get, slice_index_or, refl, sym, ap, subst, ◌∙◌, arith}
 use Rattle.std.proofs.Math.Nat.{pow-succ'}
 use Rattle.std.proofs.lemmas.Bool.{cases_eq}
-use Rattle.safl_net.specs.declared.cell.Sig.{Sig}
 use Rattle.safl_net.specs.declared.cell.Op.{Op}
 use Rattle.safl_net.specs.Netlist.{Netlist, Signal}
 use Rattle.safl_net.specs.Making.{with_signal, temporary, numbers}
 use Rattle.safl_net.proofs.Growth.{get_kept, get_new}
-use Rattle.safl_lower.specs.declared.loads.Load.{Load}
-use Rattle.safl_lower.specs.Sources.{Builds}
 use Rattle.safl_lower.specs.Rows.{maybe_one}
 use Rattle.safl_lower.specs.Heights.{maybe_reads, IsGateOf, EachOf, IsOneOf, Within, AllWithin, own_parts, load_parts, parts, Stands}
 

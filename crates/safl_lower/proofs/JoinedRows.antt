@@ -1,22 +1,14 @@
 -- Bits and loads in a row that is joined of two.
+use Rattle.safl_lower.proofs.Common.{Builds, IsSource, Load, LoadFits, Netlist, Sig, Val, eqb-true, gate, on, option_or, taken}
 use Rattle.std.proofs.Common.{◌≡◌, ℕ, suc, ◌+◌, ◌*◌, ◌<◌, ◌≤◌, List, [], ◌∷◌, ◌++◌, length, length-append, map, take, drop, slice_index_or, Option, Some}
 use Rattle.std.proofs.Common.{Vec, Global, Bool, true, false, cond, slice_get, slice_set, zero, ◌==◌, not, ◌&&◌, ◌||◌, refl, sym, ap, subst}
 use Rattle.std.proofs.Common.{◌∙◌, arith}
 use Rattle.std.proofs.lemmas.List.{take-append-drop}
-use Rattle.std.specs.Option.{option_or}
-use Rattle.safl_net.specs.declared.cell.Sig.{Sig}
-use Rattle.safl_net.specs.Netlist.{Netlist}
-use Rattle.safl_net.specs.Growth.{Val}
-use Rattle.safl_net.specs.Bits.{on, gate}
-use Rattle.safl_lower.specs.declared.loads.Load.{Load}
-use Rattle.safl_lower.specs.Sources.{IsSource, Builds}
-use Rattle.safl_lower.specs.Tables.{taken, LoadFits}
 use Rattle.safl_lower.specs.Rows.{AreBits, on_any, on_two, frees, AllFit, first_taken, row_gates, bit_joins, load_joins, row_in, row_at, total}
 use Rattle.safl_lower.proofs.Building.{source_kept}
 use Rattle.safl_lower.proofs.Cells.{sources_length}
 use Rattle.safl_lower.proofs.KnownLoads.{load_kept}
 use Rattle.safl_lower.proofs.Joining.{get_set}
-use Rattle.std.proofs.lemmas.Bool.{eqb-true}
 use Rattle.std.proofs.Math.Bool.{or-false}
 use Rattle.safl_word.proofs.Booleans.{or_assoc, or_none}
 use Rattle.safl_word.proofs.Options.{option_or_assoc, option_or_none}

@@ -1,17 +1,10 @@
 -- Rows that are joined, one row after another.
+use Rattle.safl_lower.proofs.Common.{Builds, Load, Netlist, Sig, entry_in, on, or_none, wired_before}
 use Rattle.std.proofs.Common.{◌≡◌, ℕ, zero, suc, ◌*◌, List, [], ◌∷◌, ◌++◌, length, take, Option, Some, None, Vec, Global}
 use Rattle.std.proofs.Common.{slice_get, slice_index_or, refl, sym, subst, arith}
 use Rattle.std.proofs.Math.Bool.{and-false}
 use Rattle.safl_word.proofs.Lists.{take_suc}
-use Rattle.safl_word.proofs.Booleans.{or_none}
-use Rattle.safl_net.specs.declared.cell.Sig.{Sig}
-use Rattle.safl_net.specs.Netlist.{Netlist}
-use Rattle.safl_net.proofs.Growth.{wired_before}
-use Rattle.safl_net.specs.Bits.{on}
-use Rattle.safl_lower.specs.declared.loads.Load.{Load}
 use Rattle.safl_lower.specs.declared.trees.Several.{Several}
-use Rattle.safl_lower.specs.Sources.{Builds}
-use Rattle.safl_lower.specs.Tables.{entry_in}
 use Rattle.safl_lower.specs.Rows.{AreBits, maybe_one, row_at}
 use Rattle.safl_lower.specs.Heights.{load_parts, parts}
 use Rattle.safl_lower.specs.Joints.{IsAnyOf, IsFirstOf, IsSeveralOf, IsSeveralIn}

@@ -1,25 +1,9 @@
 -- What stays as the net grows, and one more call or tail call.
+use Rattle.safl_lower.proofs.Common.{Always, AreSources, Grows, IsSource, Lowered, LoweredAll, Netlist, Never, Owner, Readiness, ReadyAt}
+use Rattle.safl_lower.proofs.Common.{Sig, SitePorts, SiteTable, TailCall, Val, Want, When, Word, gate, or_else, or_else_assoc, or_else_none}
 use Rattle.std.proofs.Common.{◌≡◌, ℕ, ◌+◌, List, [], ◌∷◌, ◌++◌, Option, Some, Bool, true, false, ◌&&◌, Result, Ok, Err, IfOk, refl, sym, ap, ◌∙◌}
-use Rattle.safl_word.specs.Words.{Word}
-use Rattle.safl_term.specs.Readiness.{or_else}
-use Rattle.safl_term.proofs.OrElse.{or_else_assoc, or_else_none}
-use Rattle.safl_net.specs.declared.cell.Sig.{Sig}
-use Rattle.safl_net.specs.Netlist.{Netlist}
-use Rattle.safl_net.specs.Growth.{Val, Grows}
-use Rattle.safl_lower.specs.declared.lowered.Readiness.{Readiness}
-use Rattle.safl_lower.specs.declared.lowered.Readiness.TheVariants.{Always, Never, When}
-use Rattle.safl_lower.specs.declared.lowered.SitePorts.{SitePorts}
-use Rattle.safl_lower.specs.declared.lowered.SiteTable.{SiteTable}
-use Rattle.safl_lower.specs.declared.lowered.Want.{Want}
-use Rattle.safl_lower.specs.declared.lowered.TailCall.{TailCall}
-use Rattle.safl_lower.specs.declared.lowered.Lowered.{Lowered}
-use Rattle.safl_lower.specs.declared.lowered.LoweredAll.{LoweredAll}
-use Rattle.safl_lower.specs.Bits.{ReadyAt}
-use Rattle.safl_lower.specs.Typing.{Owner}
-use Rattle.safl_net.specs.Bits.{gate}
 use Rattle.safl_lower.specs.Entries.{asks, asked, goes, went}
 use Rattle.safl_lower.specs.Lowering.{Sited, Setting, Shaped, ShapedAll, goes_with}
-use Rattle.safl_lower.specs.Sources.{IsSource, AreSources}
 use Rattle.safl_lower.proofs.Building.{source_grown, sources_grown, sources_joined}
 
 pub ready_kept : {a b : Netlist} → Grows a b → (r : Readiness) → ReadyAt a r → ReadyAt b r

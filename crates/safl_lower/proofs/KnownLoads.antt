@@ -1,10 +1,7 @@
 -- The loads and bits of a net are known in what is built on it.
+use Rattle.safl_lower.proofs.Common.{Builds, Load, Netlist, Sig}
 use Rattle.std.proofs.Common.{ℕ, List, Option, Some, None, slice_get}
-use Rattle.safl_net.specs.declared.cell.Sig.{Sig}
-use Rattle.safl_net.specs.Netlist.{Netlist}
-use Rattle.safl_lower.specs.declared.loads.Load.{Load}
-use Rattle.safl_lower.specs.Sources.{Builds}
-use Rattle.safl_lower.specs.Tables.{load_in, sig_in, LoadFits, FitsIn, LoadsFit, SomeFit, IsBitIn, BitsFit}
+use Rattle.safl_lower.specs.Tables.{entry_in, LoadFits, FitsIn, LoadsFit, SomeFit, IsBitIn, BitsFit}
 use Rattle.safl_lower.proofs.Building.{source_kept, sources_kept}
 
 module _ {a b : Netlist} {most : ℕ} (h : Builds a b most) where
@@ -19,11 +16,11 @@ module _ {a b : Netlist} {most : ℕ} (h : Builds a b most) where
   loads_kept xs ws q = λ i l e. load_kept (q i l e)
 
   pub some_kept : (xs : List (Option Load)) (ws : ℕ → List ℕ) → SomeFit a xs ws → SomeFit b xs ws
-  some_kept xs ws q = λ i. maybe_load_kept (load_in (slice_get xs i)) (ws i) (q i)
+  some_kept xs ws q = λ i. maybe_load_kept (entry_in (slice_get xs i)) (ws i) (q i)
 
   pub maybe_bit_kept : (o : Option Sig) → IsBitIn a o → IsBitIn b o
   maybe_bit_kept None q = tt
   maybe_bit_kept (Some s) q = source_kept h q
 
   pub bits_kept : (xs : List (Option Sig)) → BitsFit a xs → BitsFit b xs
-  bits_kept xs q = λ i. maybe_bit_kept (sig_in (slice_get xs i)) (q i)
+  bits_kept xs q = λ i. maybe_bit_kept (entry_in (slice_get xs i)) (q i)

@@ -1,20 +1,10 @@
 -- Calls laid out by own site, one after another from the last.
+use Rattle.safl_lower.proofs.Common.{Load, Netlist, Owner, Val, Want, Word, eqb_yes, gate, map_push, on, or_else, or_else_none, words}
 use Rattle.std.proofs.Common.{◌≡◌, ℕ, zero, suc, ◌+◌, ◌-◌, ◌<◌, ◌≤◌, List, [], ◌∷◌, ◌++◌, map, length, Option, Some, None, Bool, true, false, ◌&&◌}
 use Rattle.std.proofs.Common.{◌⊎◌, inl, inr, ◌==◌, T, slice_get, slice_set, refl, sym, ap, subst, ◌∙◌, arith}
-use Rattle.std.proofs.Math.Facts.{eqb_yes}
-use Rattle.std.proofs.lemmas.List.{map_push}
-use Rattle.safl_word.specs.Words.{Word}
 use Rattle.safl_word.proofs.Lists.{slice_set_here, slice_set_length}
-use Rattle.safl_term.specs.Readiness.{or_else}
-use Rattle.safl_term.proofs.OrElse.{or_else_none}
-use Rattle.safl_net.specs.Netlist.{Netlist}
-use Rattle.safl_net.specs.Growth.{Val, words}
-use Rattle.safl_net.specs.Bits.{on, gate}
-use Rattle.safl_lower.specs.declared.loads.Load.{Load}
-use Rattle.safl_lower.specs.Tables.{taken_in, taken_from, load_in, FitsIn, LoadFits, SomeFit}
+use Rattle.safl_lower.specs.Tables.{taken_in, taken_from, entry_in, FitsIn, LoadFits, SomeFit}
 use Rattle.safl_lower.proofs.BitWords.{same}
-use Rattle.safl_lower.specs.declared.lowered.Want.{Want}
-use Rattle.safl_lower.specs.Typing.{Owner}
 use Rattle.safl_lower.specs.Entries.{asked, asks, site_of, Between, WantFits, WantsFit}
 use Rattle.safl_lower.specs.Loads.{Differs, Apart, Listed, site_widths, Spreads, Placed}
 use Rattle.safl_lower.proofs.Kept.{asked_end}
@@ -25,7 +15,7 @@ want_load e = record { bit = e.want; words = e.args }
 
 -- there is no load
 abbrev pub Lacks : List (Option Load) → ℕ → Type 0
-Lacks xs i = load_in (slice_get xs i) ≡ None
+Lacks xs i = entry_in (slice_get xs i) ≡ None
 
 -- none of these sites has a load yet
 abbrev pub Fresh : ℕ → List (Option Load) → List ℕ → Type 0
@@ -47,7 +37,7 @@ all_fresh : (first : ℕ) (xs : List (Option Load)) (ks : List ℕ) → ((i : �
 all_fresh first xs [] h = tt
 all_fresh first xs (k ∷ ks) h = (h (k - first), all_fresh first xs ks h)
 
-pub none_fits : (n : Netlist) (xs : List (Option Load)) (i : ℕ) (ws : List ℕ) → Lacks xs i → FitsIn n (load_in (slice_get xs i)) ws
+pub none_fits : (n : Netlist) (xs : List (Option Load)) (i : ℕ) (ws : List ℕ) → Lacks xs i → FitsIn n (entry_in (slice_get xs i)) ws
 none_fits n xs i ws e = subst (λ (o : Option Load). FitsIn n o ws) (sym e) tt
 
 pub so_far_start : (first count : ℕ) (all : List Want) (xs : List (Option Load)) → Apart (map site_of all) → Between first (first + count)
@@ -113,7 +103,7 @@ fresh_set : (first count : ℕ) (xs : List (Option Load)) (ks : List ℕ) (j : �
 fresh_set first count xs [] j x l w o h = tt
 fresh_set first count xs (k ∷ ks) j x l w o h =
     let low = w.0 in
-    (ap load_in (set_other xs (j - first) (k - first) x (λ e. o.0 (omega (arith, e, l, low)))) ∙ h.0, fresh_set first count xs ks j x l w.2 o.1 h.1)
+    (ap entry_in (set_other xs (j - first) (k - first) x (λ e. o.0 (omega (arith, e, l, low)))) ∙ h.0, fresh_set first count xs ks j x l w.2 o.1 h.1)
 
 pub no_equal : (j k : ℕ) → (j == k) ≡ false → k ≡ j → ⊥
 no_equal j k e f = let g : (j == k) ≡ true = ap (λ (i : ℕ). j == i) f ∙ same j in absurd (cc)
@@ -146,17 +136,17 @@ module _ {first count : ℕ} {all all_rest : List Want} (rest : List Want) (e : 
       set_other xs (e.site - first) i (Some (want_load e)) (λ s. no (omega (arith, s, at)))
 
   fits_at : (F : Owner) (n : Netlist) → WantsFit F n all → (i : ℕ) (t : Bool) → (e.site == first + i) ≡ t → FitsIn n
-      (load_in (slice_get (slice_set xs (e.site - first) (Some (want_load e))) i)) (site_widths F first i)
+      (entry_in (slice_get (slice_set xs (e.site - first) (Some (want_load e))) i)) (site_widths F first i)
   fits_at F n w i true t =
       let s : e.site ≡ first + i = eqb_yes (subst T (sym t) tt) in
       let f = (wants_front F n rest e (subst (WantsFit F n) q (h.left F n w))).1 in
-      subst (λ (o : Option (Option Load)). FitsIn n (load_in o) (site_widths F first i)) (sym (here i t))
+      subst (λ (o : Option (Option Load)). FitsIn n (entry_in o) (site_widths F first i)) (sym (here i t))
       (subst (λ (k : ℕ). LoadFits n (want_load e) (F.program.params (F.program.callee k))) s (record { bit = f.bit; words = f.sized }))
-  fits_at F n w i false t = subst (λ (o : Option (Option Load)). FitsIn n (load_in o) (site_widths F first i)) (sym (other i t)) (h.fits F n w i)
+  fits_at F n w i false t = subst (λ (o : Option (Option Load)). FitsIn n (entry_in o) (site_widths F first i)) (sym (other i t)) (h.fits F n w i)
 
   called_at : (i : ℕ) (t : Bool) → (e.site == first + i) ≡ t → Listed (first + i) (map site_of all) → Listed (first + i) (map site_of rest) ⊎
       (Lacks (slice_set xs (e.site - first) (Some (want_load e))) i → ⊥)
-  called_at i true t g = inr (λ (lacks : Lacks (slice_set xs (e.site - first) (Some (want_load e))) i). let is = ap load_in (here i t) in absurd (cc))
+  called_at i true t g = inr (λ (lacks : Lacks (slice_set xs (e.site - first) (Some (want_load e))) i). let is = ap entry_in (here i t) in absurd (cc))
   called_at i false t g = by (h.called i g)
     where
       among : Listed (first + i) (map site_of rest) ⊎ (e.site ≡ first + i) → Listed (first + i) (map site_of rest)
@@ -165,7 +155,7 @@ module _ {first count : ℕ} {all all_rest : List Want} (rest : List Want) (e : 
 
       by : Listed (first + i) (map site_of all_rest) ⊎ (Lacks xs i → ⊥) → Listed (first + i) (map site_of rest) ⊎ (Lacks (slice_set xs (e.site - first) (Some (want_load e))) i → ⊥)
       by (inl k) = inl (among (listed_front (first + i) (map site_of rest) e.site (subst (Listed (first + i)) split k)))
-      by (inr k) = inr (λ lacks. k (sym (ap load_in (other i t)) ∙ lacks))
+      by (inr k) = inr (λ lacks. k (sym (ap entry_in (other i t)) ∙ lacks))
 
   told_at : (v : Val) (i : ℕ) (t : Bool) → (e.site == first + i) ≡ t → Lacks xs (e.site - first)
       → or_else (or_else (asked v rest (first + i)) (asks v e (first + i))) (taken_from v xs i) ≡ asked v all (first + i)
@@ -176,12 +166,12 @@ module _ {first count : ℕ} {all all_rest : List Want} (rest : List Want) (e : 
       let mine = gate (on v e.want) (Some (words v e.args.items)) in
       let asks_is : asks v e (first + i) ≡ mine = ap (λ (b : Bool). gate (b && on v e.want) (Some (words v e.args.items))) t in
       let was : taken_from v xs i ≡ None = subst (λ (j : ℕ). taken_from v xs j ≡ None) p (ap (taken_in v) lacks) in
-      ap (or_else (asked v rest (first + i))) (ap (λ (o : Option (Option Load)). taken_in v (load_in o)) (here i t) ∙ sym asks_is)
+      ap (or_else (asked v rest (first + i))) (ap (λ (o : Option (Option Load)). taken_in v (entry_in o)) (here i t) ∙ sym asks_is)
       ∙ sym (or_else_none (or_else (asked v rest (first + i)) (asks v e (first + i))))
       ∙ ap (or_else (or_else (asked v rest (first + i)) (asks v e (first + i)))) (sym was) ∙ old
   told_at v i false t lacks old =
       let asks_is : asks v e (first + i) ≡ None = ap (λ (b : Bool). gate (b && on v e.want) (Some (words v e.args.items))) t in
-      ap (λ (o : Option (Option Load)). or_else (asked v rest (first + i)) (taken_in v (load_in o))) (other i t)
+      ap (λ (o : Option (Option Load)). or_else (asked v rest (first + i)) (taken_in v (entry_in o))) (other i t)
       ∙ ap (λ (y : Option (List Word)). or_else y (taken_from v xs i)) (sym (or_else_none (asked v rest (first + i))) ∙ ap (or_else (asked v rest (first + i))) (sym asks_is))
       ∙ old
 
@@ -217,7 +207,7 @@ so_far_end first count all rest xs q h = record {
 
 -- ---- where each site has a load
 
-get_some : (xs : List Load) (i : ℕ) → load_in (slice_get (map (λ (l : Load). Some l) xs) i) ≡ slice_get xs i
+get_some : (xs : List Load) (i : ℕ) → entry_in (slice_get (map (λ (l : Load). Some l) xs) i) ≡ slice_get xs i
 get_some [] i = refl
 get_some (x ∷ xs) zero = refl
 get_some (x ∷ xs) (suc i) = get_some xs i
@@ -228,7 +218,7 @@ as_long (x ∷ xs) = ap suc (as_long xs)
 
 pub all_placed : (first count : ℕ) (all : List Want) (table : List (Option Load)) (xs : List Load) → map (λ (l : Load). Some l) xs ≡ table → Placed first count all table → Spreads first count all xs
 all_placed first count all table xs e h =
-    let at : (i : ℕ) → load_in (slice_get table i) ≡ slice_get xs i = λ i. ap (λ (l : List (Option Load)). load_in (slice_get l i)) (sym e) ∙ get_some xs i in
+    let at : (i : ℕ) → entry_in (slice_get table i) ≡ slice_get xs i = λ i. ap (λ (l : List (Option Load)). entry_in (slice_get l i)) (sym e) ∙ get_some xs i in
     record {
       size = sym (as_long xs) ∙ ap length e ∙ h.size;
       fits = λ F n w i l p. subst (λ (o : Option Load). FitsIn n o (site_widths F first i)) (at i ∙ p) (h.fits F n w i);
@@ -237,5 +227,5 @@ all_placed first count all table xs e h =
 
 -- each site that is called has one
 pub each_there : (first count : ℕ) (all : List Want) (table : List (Option Load)) → Placed first count all table →
-    ((i : ℕ) → i < count → Listed (first + i) (map site_of all)) → (i : ℕ) → i < length table → load_in (slice_get table i) ≡ None → ⊥
+    ((i : ℕ) → i < count → Listed (first + i) (map site_of all)) → (i : ℕ) → i < length table → entry_in (slice_get table i) ≡ None → ⊥
 each_there first count all table h g i l = let s = h.size in h.called i (g i (omega (arith, l, s)))

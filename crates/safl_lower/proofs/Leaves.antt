@@ -1,29 +1,17 @@
 -- The circuits of a constant, of a slot and of an operator.
+use Rattle.safl_lower.proofs.Common.{Always, AreSources, Builds, IsSource, LoweredAll, Netlist, Out, Primitive, Sig, SiteTable, Val, Wired}
+use Rattle.safl_lower.proofs.Common.{apply_prim, gate, is_ready, nil_at_end, on, result_width, settles_on, settles_same, words}
 use Rattle.std.proofs.Common.{◌≡◌, ℕ, zero, suc, ◌<◌, List, [], ◌∷◌, map, length, Option, Some, None, Bool, true, false, slice_get, refl, ap, subst, ◌∙◌, arith}
 use Rattle.std.proofs.lemmas.Option.{slice_get_within}
 use Rattle.safl_word.specs.Words.{Word, slot}
-use Rattle.safl_word.specs.declared.primitive.Primitive.{Primitive}
-use Rattle.safl_word.specs.Primitives.{apply_prim, result_width}
-use Rattle.safl_word.proofs.Lists.{nil_at_end}
 use Rattle.safl_term.specs.Terms.{Const, Var, Op, Terms}
 use Rattle.safl_term.specs.Readiness.{word_of, apply_to, answer, answers, wanted}
-use Rattle.safl_net.specs.declared.cell.Sig.{Sig}
-use Rattle.safl_net.specs.Netlist.{Netlist}
-use Rattle.safl_net.specs.Growth.{Val, words, Wired}
 use Rattle.safl_net.proofs.Growth.{grows_on, grows_none, wired_before}
-use Rattle.safl_lower.specs.declared.lowered.Readiness.TheVariants.{Always}
-use Rattle.safl_lower.specs.declared.lowered.SiteTable.{SiteTable}
-use Rattle.safl_lower.specs.declared.lowered.LoweredAll.{LoweredAll}
-use Rattle.safl_lower.specs.declared.lowered.Out.{Out}
-use Rattle.safl_net.specs.Bits.{on, gate}
-use Rattle.safl_lower.specs.Bits.{is_ready}
 use Rattle.safl_lower.specs.Entries.{asked, went, site_of, member_of, cost}
 use Rattle.safl_lower.specs.Lowering.{back_of, goes_of, Lowers, LowersAll}
 use Rattle.safl_lower.proofs.Kept.{ready_kept, apart}
 use Rattle.safl_lower.proofs.Typing.{parts_typed}
 use Rattle.safl_lower.proofs.Gathered.{stays, stays_by, out_kept, told_by, never_is, mates_same}
-use Rattle.safl_lower.specs.Sources.{IsSource, AreSources, Builds}
-use Rattle.safl_net.proofs.Settling.{settles_on, settles_same}
 use Rattle.safl_lower.proofs.Cells.{source_at, sources_length}
 
 -- ---- leaves

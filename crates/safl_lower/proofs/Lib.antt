@@ -1,3 +1,4 @@
+mod Common
 pub mod Arms
 pub mod Typing
 pub mod Kept

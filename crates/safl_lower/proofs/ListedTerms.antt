@@ -1,11 +1,9 @@
 -- A list of terms of the code, term by term, as a plain list.
-use Rattle.std.proofs.Common.{◌≡◌, ℕ, zero, suc, ◌+◌, ◌*◌, ◌<◌, List, [], ◌∷◌, take, drop, Some, slice_get, Bool, true, false, ◌||◌, ap, ◌∙◌, arith, add-one}
+use Rattle.safl_lower.proofs.Common.{hold_calls, holds_calls, shown_term, shown_terms}
+use Rattle.std.proofs.Common.{◌≡◌, ℕ, zero, suc, ◌+◌, List, [], ◌∷◌, take, drop, Some, slice_get, Bool, true, false, ◌||◌, ap, ◌∙◌, add-one}
 use Rattle.std.proofs.lemmas.Bool.{or_parts, or_right}
 use Rattle.safl_term.specs.Terms as plain
 use Rattle.safl_term.specs.declared.term.Term.{Term}
-use Rattle.safl_term.specs.Tree.{shown_term, shown_terms}
-use Rattle.safl_term.specs.Sizes.{nodes, nodes_in}
-use Rattle.safl_lower.specs.Typing.{holds_calls, hold_calls}
 use Rattle.safl_lower.proofs.Lists.{end}
 use Rattle.safl_lower.proofs.Able.{joined}
 
@@ -21,11 +19,6 @@ pub forest_at : (ts : List Term) (i : ℕ) (x : Term) → slice_get ts i ≡ Som
 forest_at [] i x e = absurd (cc)
 forest_at (t ∷ ts) zero x e = let g : t ≡ x = cc in ap (λ (y : Term). plain.Cons (shown_term y) (shown_terms ts)) g
 forest_at (t ∷ ts) (suc i) x e = ap (plain.Cons (shown_term t)) (forest_at ts i x e)
-
-pub smaller_at : (ts : List Term) (i : ℕ) (x : Term) → slice_get ts i ≡ Some x → 2 * nodes (shown_term x) < 2 * nodes_in (shown_terms ts) + 1
-smaller_at [] i x e = absurd (cc)
-smaller_at (t ∷ ts) zero x e = let g : t ≡ x = cc in let h = ap (λ (y : Term). nodes (shown_term y)) g in omega (arith, h)
-smaller_at (t ∷ ts) (suc i) x e = let h = smaller_at ts i x e in omega (arith, h)
 
 -- ---- calls in a list
 

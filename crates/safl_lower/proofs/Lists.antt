@@ -1,27 +1,13 @@
 -- The circuits of a list of terms.
+use Rattle.safl_lower.proofs.Common.{Always, AreSources, Lowered, LoweredAll, Netlist, Out, Program, Readiness, ReadyAt, Sig, SiteTable}
+use Rattle.safl_lower.proofs.Common.{Word, fits_all_le, fits_le, gate, is_ready, nil_at_end, nodes, nodes_in, on, or_else_assoc}
+use Rattle.safl_lower.proofs.Common.{or_else_none, settles_on, settles_same, words}
 use Rattle.std.proofs.Common.{◌≡◌, ℕ, ◌+◌, List, [], ◌∷◌, ◌++◌, map, length, Option, Some, None, Bool, false, ◌&&◌, refl, sym, ap, subst, ◌∙◌, arith, append_assoc, length-append, ⊎_elim}
-use Rattle.safl_term.specs.Program.{Program}
 use Rattle.safl_term.specs.WellFormed.{Spans, SpansAll, HasWidth, HaveWidths}
-use Rattle.safl_term.proofs.Places.{fits_le, fits_all_le}
 use Rattle.safl_lower.proofs.Branches.{Both}
-use Rattle.safl_word.specs.Words.{Word}
-use Rattle.safl_word.proofs.Lists.{nil_at_end}
 use Rattle.safl_term.specs.Terms.{Term, Terms, Nil, Cons}
 use Rattle.safl_term.specs.Readiness.{Answer, Ready, LoopTo, NotYet, word_of, both, or_else, answer, answers, wanted, wanted_in}
-use Rattle.safl_net.specs.declared.cell.Sig.{Sig}
-use Rattle.safl_net.specs.Netlist.{Netlist}
-use Rattle.safl_net.specs.Growth.{words}
 use Rattle.safl_net.proofs.Growth.{grows_on, grows_none, wired_before}
-use Rattle.safl_lower.specs.declared.lowered.Readiness.{Readiness}
-use Rattle.safl_lower.specs.declared.lowered.Readiness.TheVariants.{Always}
-use Rattle.safl_lower.specs.declared.lowered.SiteTable.{SiteTable}
-use Rattle.safl_lower.specs.declared.lowered.Lowered.{Lowered}
-use Rattle.safl_lower.specs.declared.lowered.LoweredAll.{LoweredAll}
-use Rattle.safl_lower.specs.declared.lowered.Out.{Out}
-use Rattle.safl_net.specs.Bits.{on, gate}
-use Rattle.safl_lower.specs.Bits.{is_ready, ReadyAt}
-use Rattle.safl_term.specs.Sizes.{nodes, nodes_in}
-use Rattle.safl_term.proofs.OrElse.{or_else_assoc, or_else_none}
 use Rattle.safl_term.proofs.PlainTerms.{some_nodes}
 use Rattle.safl_lower.specs.Typing.{Owner, Typed, TypedAll, sites_of, sites_in}
 use Rattle.safl_lower.specs.Entries.{asked, went, site_of}
@@ -29,9 +15,7 @@ use Rattle.safl_lower.specs.Lowering.{back_of, open_at, gives, goes_of, ShapedAl
 use Rattle.safl_lower.proofs.Arms.{gate_or, and_then, join}
 use Rattle.safl_lower.proofs.Kept.{setting_kept, apart}
 use Rattle.safl_lower.proofs.Gathered.{words_more, stays, stays_by, no_goes, more_twice, out_kept, told_by, told_more, gate_is_none}
-use Rattle.safl_lower.specs.Sources.{AreSources}
 use Rattle.safl_lower.proofs.Building.{source_grown, sources_grown, sources_joined}
-use Rattle.safl_net.proofs.Settling.{settles_on, settles_same}
 use Rattle.safl_lower.proofs.Cells.{one_source, no_sources}
 
 -- ---- lists of terms

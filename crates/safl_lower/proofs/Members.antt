@@ -1,10 +1,6 @@
 -- What the tail calls to one member come to.
+use Rattle.safl_lower.proofs.Common.{TailCall, Val, Word, gate, on, or_else, words}
 use Rattle.std.proofs.Common.{◌≡◌, ℕ, zero, suc, List, [], ◌∷◌, take, Option, Some, None, Bool, true, false, ◌&&◌, cond, ◌==◌, refl, sym, ap, ◌∙◌}
-use Rattle.safl_word.specs.Words.{Word}
-use Rattle.safl_term.specs.Readiness.{or_else}
-use Rattle.safl_net.specs.Growth.{Val, words}
-use Rattle.safl_net.specs.Bits.{on, gate}
-use Rattle.safl_lower.specs.declared.lowered.TailCall.{TailCall}
 use Rattle.safl_lower.specs.Entries.{went, Told}
 use Rattle.safl_lower.specs.Loads.{taken_to, to_member}
 

@@ -1,13 +1,9 @@
 -- Terms without calls and tail calls want nothing, and go on to no member.
+use Rattle.safl_lower.proofs.Common.{Word, goes_of, hold_calls, holds_calls, neither, pick_ap, with_none}
 use Rattle.std.proofs.Common.{◌≡◌, ℕ, List, ◌++◌, Option, None, false, ◌||◌, refl, ◌∙◌}
 use Rattle.std.proofs.lemmas.Bool.{or_parts}
-use Rattle.safl_word.specs.Words.{Word}
-use Rattle.safl_word.proofs.Words.{pick_ap}
 use Rattle.safl_term.specs.Terms.{Term, Const, Var, Op, If, Let, Call, Loop, Terms, Nil, Cons}
 use Rattle.safl_term.specs.Readiness.{Answer, Ready, LoopTo, NotYet, select, with_all, answer, answers, wanted, wanted_in}
-use Rattle.safl_term.proofs.OrElse.{neither, with_none}
-use Rattle.safl_lower.specs.Typing.{holds_calls, hold_calls}
-use Rattle.safl_lower.specs.Lowering.{goes_of}
 use Rattle.safl_lower.proofs.Calls.{select_none}
 use Rattle.safl_lower.proofs.Gathered.{pick_none}
 use Rattle.safl_lower.proofs.Leaves.{goes_op}

@@ -1,22 +1,15 @@
 -- Shifts by amounts that are cut down.
+use Rattle.safl_lower.proofs.Common.{AreSources, IsSource, Netlist, Primitive, Sig, Word, fits, prim_width, width_max, wired_before}
 use Rattle.std.proofs.Common.{◌≡◌, ℕ, ◌+◌, ◌*◌, ◌/◌, ◌%◌, ◌^◌, ◌<◌, ◌≤◌, inl, inr, List, [], ◌∷◌, length, cond, Some, Bool, true, false, ◌&&◌}
 use Rattle.std.proofs.Common.{nat_lt, nat_le, Result, Ok, Err, IfOk, slice_index_or, refl, sym, subst, ap, ◌∙◌, arith}
 use Rattle.std.proofs.lemmas.Bool.{leb-true, ltb-true, ltb-false, lt-ltb, le-ltb, eq-eqb, and_parts}
 use Rattle.std.proofs.lemmas.Nat.{mod_low}
 use Rattle.std.proofs.Math.Pow.{pow_mono}
 use Rattle.std.proofs.lemmas.Option.{cond_some}
-use Rattle.safl_word.specs.Words.{Word}
-use Rattle.safl_word.specs.Limits.{width_max}
 use Rattle.safl_word.specs.Primitives.{is_width, two_widths, bit_of, apply_prim, result_width}
-use Rattle.safl_word.specs.declared.primitive.Primitive.{Primitive}
 use Rattle.safl_word.specs.declared.primitive.Primitive.TheVariants.{Gt, Cat, Bits}
 use Rattle.safl_word.proofs.Widths.{within}
-use Rattle.safl_net.specs.declared.cell.Sig.{Sig}
-use Rattle.safl_net.specs.Netlist.{Netlist}
-use Rattle.safl_net.specs.Widths.{prim_width}
 use Rattle.safl_net.specs.Growth.{Val, words, Wired, Grows}
-use Rattle.safl_net.proofs.Growth.{fits, wired_before}
-use Rattle.safl_lower.specs.Sources.{IsSource, AreSources}
 use Rattle.safl_lower.specs.Heights.{IsGateOf}
 use Rattle.safl_lower.proofs.Building.{source_grown}
 use Rattle.safl_lower.specs.Shifts.{IsShift, ShiftAlike, IsAmount, ShiftsIt}

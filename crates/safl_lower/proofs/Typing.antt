@@ -1,11 +1,8 @@
 -- What the parts of a term are in its owner's body, and where its sites stand.
+use Rattle.safl_lower.proofs.Common.{Primitive, Program, Spans, SpansAll, fits_all_le, fits_le}
 use Rattle.std.proofs.Common.{◌≡◌, ℕ, suc, ◌<◌, ◌≤◌, List, [], ◌∷◌, ◌++◌, Bool, false, inl, inr, ⊎_elim, arith}
 use Rattle.std.proofs.lemmas.Bool.{cases_lt}
-use Rattle.safl_word.specs.declared.primitive.Primitive.{Primitive}
-use Rattle.safl_term.specs.Program.{Program}
 use Rattle.safl_term.specs.Terms.{Term, Const, Var, Op, If, Let, Call, Loop, Terms, Nil, Cons}
-use Rattle.safl_term.specs.WellFormed.{Spans, SpansAll}
-use Rattle.safl_term.proofs.Places.{fits_le, fits_all_le}
 use Rattle.safl_lower.specs.Typing.{Owner, Typed, TypedAll, sites_of, sites_in}
 use Rattle.safl_lower.specs.Entries.{Between}
 use Rattle.safl_lower.specs.Loads.{Differs, Apart, Listed}

@@ -1,28 +1,14 @@
 -- The last step of each kind of term in the walk down a body.
+use Rattle.safl_lower.proofs.Common.{Builds, IsSource, Lowered, LoweredAll, Netlist, Never, Out, Readiness, Sig, SiteTable, Val, Wired}
+use Rattle.safl_lower.proofs.Common.{asked, gate, grows_on, holds_calls, is_ready, on, or_else, went}
 use Rattle.std.proofs.Common.{◌≡◌, ℕ, List, ◌⊎◌, cond, ◌==◌, true, Result, Ok, Err, IfOk, OnOk, sym, subst}
 use Rattle.safl_term.specs.Terms.{Term, Terms, If, Let, Call, Loop}
-use Rattle.safl_term.specs.Readiness.{or_else}
-use Rattle.safl_net.specs.declared.cell.Sig.{Sig}
-use Rattle.safl_net.specs.Netlist.{Netlist}
-use Rattle.safl_net.specs.Growth.{Val, Wired}
-use Rattle.safl_net.proofs.Growth.{grows_on}
 use Rattle.safl_lower.specs.declared.joins.Paths.{Paths}
-use Rattle.safl_lower.specs.declared.lowered.Readiness.{Readiness}
-use Rattle.safl_lower.specs.declared.lowered.Readiness.TheVariants.{Never}
-use Rattle.safl_lower.specs.declared.lowered.SiteTable.{SiteTable}
-use Rattle.safl_lower.specs.declared.lowered.Lowered.{Lowered}
-use Rattle.safl_lower.specs.declared.lowered.LoweredAll.{LoweredAll}
-use Rattle.safl_lower.specs.declared.lowered.Out.{Out}
-use Rattle.safl_net.specs.Bits.{on, gate}
-use Rattle.safl_lower.specs.Bits.{is_ready}
-use Rattle.safl_lower.specs.Entries.{asked, went}
 use Rattle.safl_lower.specs.Lowering.{gives, gathered, open_at, Shaped, Lowerable, LowerableAll, Lowers, LowersAll, ShowsPort, goes_with, Enters, Leaves}
 use Rattle.safl_lower.proofs.Branches.{Branches, Inner, lowers_if}
 use Rattle.safl_lower.proofs.Calls.{lowers_call, lowers_loop}
 use Rattle.safl_lower.proofs.Able.{call_shape}
 use Rattle.safl_lower.specs.Joining.{is_reached, selects_yes, selects_no}
-use Rattle.safl_lower.specs.Sources.{IsSource, Builds}
-use Rattle.safl_lower.specs.Typing.{holds_calls}
 
 -- the same of a term that is equal, and of another name of the slots
 module _ {P : SiteTable} {slots : List Sig} {path : Sig} {n : Netlist} where

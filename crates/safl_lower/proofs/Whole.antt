@@ -1,30 +1,13 @@
 -- The circuit of a body from that of its term.
+use Rattle.safl_lower.proofs.Common.{Builds, Grows, LoadFits, Lowered, Netlist, Never, Out, Owner, Ports, ReadyAt, Sig, SitePorts}
+use Rattle.safl_lower.proofs.Common.{SiteTable, TailCall, Val, Want, Wired, Word, gate, grows_on, nodes, on, one_word, settles_on, sites_of}
+use Rattle.safl_lower.proofs.Common.{tails_of, taken, wired_before, words}
 use Rattle.std.proofs.Common.{Vec, Global, ◌≡◌, ℕ, ◌+◌, ◌<◌, ◌≤◌, List, [], ◌∷◌, ◌++◌, map, length, Option, Bool, true, false, refl, sym, ap, subst, ◌∙◌, arith}
-use Rattle.safl_word.specs.Words.{Word}
 use Rattle.safl_term.specs.Terms.{Term}
-use Rattle.safl_term.specs.Sizes.{nodes}
 use Rattle.safl_term.specs.Checked.{CheckedProgram, IsChecked}
 use Rattle.safl_term.specs.Readiness.{answer, wanted, or_else}
-use Rattle.safl_net.specs.declared.cell.Sig.{Sig}
-use Rattle.safl_net.specs.Netlist.{Netlist}
-use Rattle.safl_net.specs.Growth.{Val, words, Wired, Grows}
-use Rattle.safl_net.specs.Bits.{on, gate}
-use Rattle.safl_net.proofs.Growth.{grows_on, wired_before}
-use Rattle.safl_net.proofs.Settling.{settles_on}
-use Rattle.safl_lower.specs.Sources.{Builds}
-use Rattle.safl_lower.specs.Tables.{taken, one_word, LoadFits}
 use Rattle.safl_lower.proofs.KnownLoads.{load_kept}
-use Rattle.safl_lower.specs.declared.lowered.Readiness.TheVariants.{Never}
-use Rattle.safl_lower.specs.declared.lowered.Ports.{Ports}
-use Rattle.safl_lower.specs.declared.lowered.SitePorts.{SitePorts}
-use Rattle.safl_lower.specs.declared.lowered.SiteTable.{SiteTable}
 use Rattle.safl_lower.specs.declared.lowered.Body.{Body}
-use Rattle.safl_lower.specs.declared.lowered.Lowered.{Lowered}
-use Rattle.safl_lower.specs.declared.lowered.Out.{Out}
-use Rattle.safl_lower.specs.declared.lowered.Want.{Want}
-use Rattle.safl_lower.specs.declared.lowered.TailCall.{TailCall}
-use Rattle.safl_lower.specs.Bits.{ReadyAt}
-use Rattle.safl_lower.specs.Typing.{Owner, sites_of, tails_of}
 use Rattle.safl_lower.specs.Entries.{asked, went, Told, site_of, member_of, Between, Mates, OutFits, WantsFit, LoopsFit, cost}
 use Rattle.safl_lower.specs.Lowering.{back_of, open_at, gives, goes_of, Shaped, Lowerable, Lowers}
 use Rattle.safl_lower.specs.Loads.{Apart, Listed, to_member, Spreads, Merged}

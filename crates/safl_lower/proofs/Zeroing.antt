@@ -1,36 +1,21 @@
 -- Words that are 0 unless they are ready, and what cells say of them.
+use Rattle.safl_lower.proofs.Common.{Always, AreSources, Form, IsSource, Load, Lowered, Readiness, ReadyAt, Sig, Word, eqb-true, fits, gate}
+use Rattle.safl_lower.proofs.Common.{get_some, is_ready, on, op_width, unwrap_or, width_is, width_max, wired_before, word_eq}
 use Rattle.std.proofs.Common.{◌≡◌, ℕ, zero, suc, ◌<◌, ◌≤◌, List, [], ◌∷◌, ◌++◌, map, length, All, Option, Some, None, Bool, true, false, ◌&&◌, ◌==◌, cond}
 use Rattle.std.proofs.Common.{slice_get, Result, Ok, Err, IfOk, OnOk, refl, sym, ap, subst, ◌∙◌, arith}
 use Rattle.std.proofs.lemmas.List.{length-map}
-use Rattle.std.specs.Option.{unwrap_or}
-use Rattle.std.proofs.lemmas.Bool.{eqb-true}
-use Rattle.safl_word.specs.Words.{Word}
-use Rattle.safl_word.specs.Limits.{width_max}
-use Rattle.safl_word.proofs.Words.{word_eq}
-use Rattle.safl_word.proofs.Lists.{get_some}
-use Rattle.safl_net.specs.declared.cell.Sig.{Sig}
 use Rattle.safl_net.specs.declared.cell.Op.{Op}
 use Rattle.safl_net.specs.declared.cell.Op.TheVariants.{Const, Mux}
 use Rattle.safl_net.specs.declared.cell.Cell.{Cell as Made}
 use Rattle.safl_net.specs.Netlist.{Netlist, Signal, Kind, Input, Reg, Wire, Cell, width_in, width_of}
 use Rattle.safl_net.specs.Valuations.{cell_word}
-use Rattle.safl_net.specs.Widths.{op_width}
 use Rattle.safl_net.specs.Rules.{IsNetlist, KindFits, CellFits}
 use Rattle.safl_net.specs.Making.{kind_at, kind_in, cell_in, numbers, signal_widths}
 use Rattle.safl_net.specs.Stored.{cell_of}
 use Rattle.safl_net.specs.Growth.{Val, words, Wired, Grows, KindHolds, maybe_width, width_at}
 use Rattle.safl_net.specs.Settled.{IsSettled, IsSteady}
-use Rattle.safl_net.specs.Bits.{on, gate}
-use Rattle.safl_net.proofs.Growth.{fits, width_is, wired_before}
-use Rattle.safl_lower.specs.declared.lowered.Readiness.{Readiness}
-use Rattle.safl_lower.specs.declared.lowered.Readiness.TheVariants.{Always}
-use Rattle.safl_lower.specs.declared.lowered.Lowered.{Lowered}
-use Rattle.safl_lower.specs.declared.resets.Form.{Form}
 use Rattle.safl_lower.specs.declared.resets.Form.TheVariants.{Zero, Choice, Other}
-use Rattle.safl_lower.specs.Bits.{is_ready, ReadyAt}
-use Rattle.safl_lower.specs.Sources.{IsSource, AreSources}
 use Rattle.safl_lower.specs.Tables.{pin, taken_in, FitsIn}
-use Rattle.safl_lower.specs.declared.loads.Load.{Load}
 use Rattle.safl_lower.specs.Lowering.{gives, Shaped}
 use Rattle.safl_lower.specs.Resets.{zero_word, word_or_zero, word_in, HasWordOf, LoadsWord, Splits, IsOfForm, IsConstantForm, IsChoiceForm}
 use Rattle.safl_lower.proofs.BitWords.{choose_is}
@@ -38,7 +23,7 @@ use Rattle.safl_lower.proofs.Cells.{sources_length}
 
 -- ---- what is ready, and what is not
 
-gate_else : {A : Type 0} (p : Bool) (a b : A) → unwrap_or (gate p (Some a)) b ≡ cond p a b
+pub gate_else : {A : Type 0} (p : Bool) (a b : A) → unwrap_or (gate p (Some a)) b ≡ cond p a b
 gate_else true a b = refl
 gate_else false a b = refl
 
@@ -130,17 +115,6 @@ loaded_long n v (Some l) ws us f e = by (on v l.bit)
     by : (b : Bool) → length (unwrap_or (gate b (Some (words v l.words.items))) us) ≡ length ws
     by true = length-map l.words.items (λ (s : Sig). v s.0) ∙ sources_length n l.words.items ws f.words
     by false = e
-
--- the word of a load that has one word
-pub alone_word : (n : Netlist) (v : Val) (o : Option Load) (w : ℕ) (u : Word) → FitsIn n o (w ∷ []) → word_in v o 0 u ∷ [] ≡ unwrap_or (taken_in v o) (u ∷ [])
-alone_word n v None w u f = refl
-alone_word n v (Some l) w u f = by (on v l.bit) l.words.items f.words
-  where
-    by : (b : Bool) (xs : List Sig) → AreSources n xs (w ∷ []) → cond b (v (pin xs 0).0) u ∷ [] ≡ unwrap_or (gate b (Some (words v xs))) (u ∷ [])
-    by true [] h = absurd h.widths
-    by true (x ∷ []) h = refl
-    by true (x ∷ y ∷ xs) h = absurd h.widths.1
-    by false xs h = refl
 
 pub words_end : (v : Val) (xs : List Sig) (x : Sig) → words v (xs ++ x ∷ []) ≡ words v xs ++ v x.0 ∷ []
 words_end v [] x = refl

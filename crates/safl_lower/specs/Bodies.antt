@@ -9,7 +9,7 @@ use Rattle.safl_net.specs.Netlist.{Netlist}
 use Rattle.safl_net.specs.Growth.{Val, words, Wired}
 use Rattle.safl_net.specs.Bits.{on, gate}
 use Rattle.safl_lower.specs.Sources.{IsSource, AreSources, Builds, HasRoom}
-use Rattle.safl_lower.specs.Tables.{load_in, taken, taken_at, taken_from, one_word, LoadFits, LoadsFit, SomeFit}
+use Rattle.safl_lower.specs.Tables.{entry_in, taken, taken_at, taken_from, one_word, LoadFits, LoadsFit, SomeFit}
 use Rattle.safl_lower.specs.declared.lowered.SitePorts.{SitePorts}
 use Rattle.safl_lower.specs.declared.lowered.Ports.{Ports}
 use Rattle.safl_lower.specs.declared.lowered.Body.{Body}
@@ -65,7 +65,7 @@ pub record IsLowered (c : CheckedProgram) (f : ℕ) (P : Ports) (old new : Netli
   pub group : IsGroup c.program f (length b.loops.items)
   pub fits : BodyFits c f new b
   -- a function of the group to which the body makes no tail call has no load
-  pub idle : (i : ℕ) → ¬ Listed (c.program.unit f + i) (tails_of (c.program.body f)) → load_in (slice_get b.loops.items i) ≡ None
+  pub idle : (i : ℕ) → ¬ Listed (c.program.unit f + i) (tails_of (c.program.body f)) → entry_in (slice_get b.loops.items i) ≡ None
   -- the bits and arguments of the tail calls are no more than the body has terms
   pub tails : loads_cost b.loops.items ≤ nodes (c.program.body f)
   -- the body ends if it runs and is ready, with its word

@@ -7,7 +7,7 @@ use Rattle.safl_net.specs.Bits.{on}
 use Rattle.safl_lower.specs.declared.loads.Load.{Load}
 use Rattle.safl_lower.specs.declared.trees.Several.{Several}
 use Rattle.safl_lower.specs.Sources.{IsSource}
-use Rattle.safl_lower.specs.Tables.{taken_in, on_in, IsBitIn, FitsIn, entry_in}
+use Rattle.safl_lower.specs.Tables.{taken_in, on_in, IsBitIn, FitsIn}
 use Rattle.safl_lower.specs.Rows.{AreBits, AllFit, on_any, on_two, frees, first_taken, maybe_one}
 use Rattle.safl_lower.specs.Heights.{Within, AllWithin, Stands, load_parts, parts}
 
@@ -48,7 +48,3 @@ pub record IsSeveralOf (n : Netlist) (row : List Sig) (s : Several) : Type 0 whe
 abbrev pub IsSeveralIn : Netlist → List Sig → Option Several → Type 0
 IsSeveralIn n row None = length row ≡ 0
 IsSeveralIn n row (Some s) = IsSeveralOf n row s
-
--- the entry of a number, if there is one
-abbrev pub several_in : Option (Option Several) → Option Several
-several_in o = entry_in o

@@ -6,7 +6,7 @@ use Rattle.safl_net.specs.Netlist.{Netlist}
 use Rattle.safl_net.specs.Growth.{Val, words, Wired}
 use Rattle.safl_net.specs.Bits.{on, gate}
 use Rattle.safl_lower.specs.declared.loads.Load.{Load}
-use Rattle.safl_lower.specs.Tables.{load_in, taken_at, taken_from, LoadsFit, SomeFit}
+use Rattle.safl_lower.specs.Tables.{entry_in, taken_at, taken_from, LoadsFit, SomeFit}
 use Rattle.safl_lower.specs.declared.lowered.Want.{Want}
 use Rattle.safl_lower.specs.declared.lowered.TailCall.{TailCall}
 use Rattle.safl_lower.specs.Typing.{Owner}
@@ -43,7 +43,7 @@ pub record Spreads (first count : ℕ) (all : List Want) (xs : List Load) : Type
 pub record Placed (first count : ℕ) (all : List Want) (xs : List (Option Load)) : Type 0 where
   pub size : length xs ≡ count
   pub fits : (F : Owner) (n : Netlist) → WantsFit F n all → SomeFit n xs (site_widths F first)
-  pub called : (i : ℕ) → Listed (first + i) (map site_of all) → load_in (slice_get xs i) ≢ None
+  pub called : (i : ℕ) → Listed (first + i) (map site_of all) → entry_in (slice_get xs i) ≢ None
   pub told : (v : Val) (i : ℕ) → taken_from v xs i ≡ asked v all (first + i)
 
 -- the arguments of the first tail call to the function that is made
@@ -69,5 +69,5 @@ pub record Merged (first count : ℕ) (old new : Netlist) (all : List TailCall) 
   pub size : length xs ≡ count
   pub fits : (F : Owner) → LoopsFit F old all → SomeFit new xs (member_widths F first)
   pub paid : loads_cost xs ≤ cost all
-  pub idle : (i : ℕ) → ¬ Listed (first + i) (map member_of all) → load_in (slice_get xs i) ≡ None
+  pub idle : (i : ℕ) → ¬ Listed (first + i) (map member_of all) → entry_in (slice_get xs i) ≡ None
   pub told : (v : Val) → Wired new v → (i : ℕ) → taken_from v xs i ≡ taken_to v all (first + i)

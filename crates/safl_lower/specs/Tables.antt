@@ -30,26 +30,20 @@ abbrev pub entry_in : {A : Type 0} → Option (Option A) → Option A
 entry_in None = None
 entry_in (Some o) = o
 
-abbrev pub load_in : Option (Option Load) → Option Load
-load_in o = entry_in o
-
 -- the words that a table of loads takes at a place
 abbrev pub taken_at : Val → List Load → ℕ → Option (List Word)
 taken_at v xs i = taken_in v (slice_get xs i)
 
 abbrev pub taken_from : Val → List (Option Load) → ℕ → Option (List Word)
-taken_from v xs i = taken_in v (load_in (slice_get xs i))
+taken_from v xs i = taken_in v (entry_in (slice_get xs i))
 
 -- whether a bit is there and is 1
 abbrev pub on_in : Val → Option Sig → Bool
 on_in v None = false
 on_in v (Some s) = on v s
 
-abbrev pub sig_in : Option (Option Sig) → Option Sig
-sig_in o = entry_in o
-
 abbrev pub on_from : Val → List (Option Sig) → ℕ → Bool
-on_from v xs i = on_in v (sig_in (slice_get xs i))
+on_from v xs i = on_in v (entry_in (slice_get xs i))
 
 abbrev pub one_word : Option Word → Option (List Word)
 one_word None = None
@@ -69,7 +63,7 @@ abbrev pub LoadsFit : Netlist → List Load → (ℕ → List ℕ) → Type 0
 LoadsFit n xs ws = EachAt xs (λ i l. LoadFits n l (ws i))
 
 abbrev pub SomeFit : Netlist → List (Option Load) → (ℕ → List ℕ) → Type 0
-SomeFit n xs ws = (i : ℕ) → FitsIn n (load_in (slice_get xs i)) (ws i)
+SomeFit n xs ws = (i : ℕ) → FitsIn n (entry_in (slice_get xs i)) (ws i)
 
 -- the signal, if there is one, is a bit
 abbrev pub IsBitIn : Netlist → Option Sig → Type 0
@@ -77,7 +71,7 @@ IsBitIn n None = Unit {0}
 IsBitIn n (Some s) = IsSource n s 1
 
 abbrev pub BitsFit : Netlist → List (Option Sig) → Type 0
-BitsFit n xs = (i : ℕ) → IsBitIn n (sig_in (slice_get xs i))
+BitsFit n xs = (i : ℕ) → IsBitIn n (entry_in (slice_get xs i))
 
 -- the bit of a load, or another bit if there is no load
 abbrev pub load_bit : Load → Sig

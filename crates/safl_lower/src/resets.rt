@@ -1,17 +1,16 @@
-//! Words that registers take, with the choice of 0 made last.
+//! Words that the registers of arguments take, with the choice of 0 made last.
 //!
 //! A flip-flop that takes 0 if a bit says so, and else another word, needs no logic for the 0: it has a reset. So where
-//! a register may take 0, and other words too, the choice of 0 is taken out of the choices between these.
+//! such a register may take 0, and other words too, the choice of 0 is taken out of the choices between these.
 
-ghost use Rattle.std.specs.Prelude.{◌≡◌, ℕ, ◌+◌, ◌*◌, ◌≤◌, List, [], ◌∷◌, Some, length, slice_get, IfOk, OnOk};
-ghost use Rattle.std.specs.Option.{unwrap_or};
+ghost use Rattle.std.specs.Prelude.{◌≡◌, ℕ, ◌+◌, ◌*◌, ◌≤◌, List, Some, length, slice_get, IfOk, OnOk};
 ghost use Rattle.safl_word.specs.Limits.{width_max};
 ghost use Rattle.safl_net.specs.Names.{IsTidy};
 ghost use Rattle.safl_net.specs.Growth.{Val, words, Wired};
 ghost use Rattle.safl_net.specs.Settled.{IsSettled};
 ghost use Rattle.safl_lower.specs.Lowering.{Shaped};
 ghost use Rattle.safl_lower.specs.Sources.{IsSource, AreSources, Builds, CanGrow};
-ghost use Rattle.safl_lower.specs.Tables.{taken_in, FitsIn};
+ghost use Rattle.safl_lower.specs.Tables.{FitsIn};
 ghost use Rattle.safl_lower.specs.Resets.{zero_word, HasWordOf, HasChosen, Splits, IsOfForm, IsConstantForm, IsChoiceForm, KeepsWords, AreLoaded, KeepsShape, Loads, KeepsWidth, LoadsLast, ChoosesWidth};
 
 use crate::gates::{constant, mux};
@@ -27,9 +26,6 @@ use std::alloc::Global;
 const TAIL_CALLS: u32 = 7;
 
 const CALLS: u32 = 3;
-
-// The same of the words with which functions end.
-const ENDS: u32 = 1;
 
 /// What the cell of a signal says of its word: it is always 0; a bit chooses it from two signals; or anything else.
 #[derive(Clone, Copy)]
@@ -64,22 +60,6 @@ pub fn reset_words(
         all.push(word)?;
     }
     Ok(all)
-}
-
-/// The word that a register takes: that of `load` if it is there and taken, else that of `now`. The choice of 0 is made
-/// last.
-pub fn reset_word(net: &mut Net, load: &Option<Load>, now: Sig) -> Result<Sig, NoMemory>
-    requires settled { IsSettled net.old }
-    requires fits { (w : ℕ) × FitsIn net.old load.now (w ∷ []) × IsSource net.old now w }
-    requires room { CanGrow net.old 12 }
-    ensures tidy { IsTidy net.new }
-    ensures built { OnOk result (Builds net.old net.new 12) }
-    ensures fits { (w : ℕ) → FitsIn net.old load.now (w ∷ []) → IsSource net.old now w → IfOk result (λ s. IsSource net.new s w) }
-    ensures value { IfOk result (λ s. (v : Val) → Wired net.new v → v s.0 ∷ [] ≡ unwrap_or (taken_in v load.now) (v now.0 ∷ [])) }
-{
-    let kept = word_of(now);
-    let word = last_word(net, load, 0, ENDS, kept, now)?;
-    Ok(word)
 }
 
 // The word of a signal, which is ready.

@@ -4,9 +4,9 @@ ghost use Rattle.std.specs.Prelude.{◌≡◌, ℕ, ◌+◌, ◌*◌, ◌<◌, �
 ghost use Rattle.safl_net.specs.Names.{IsTidy};
 ghost use Rattle.safl_net.specs.Netlist.{Netlist};
 ghost use Rattle.safl_lower.specs.Sources.{Builds, CanGrow, Lasts};
-ghost use Rattle.safl_lower.specs.Tables.{SomeFit, entry_in, load_in, sig_in};
+ghost use Rattle.safl_lower.specs.Tables.{SomeFit, entry_in};
 ghost use Rattle.safl_lower.specs.Rows.{AreBits, AllFit, maybe_one, bit_joins, load_joins, row_at, total, RowsAreBits, RowsFit};
-ghost use Rattle.safl_lower.specs.Joints.{IsAnyOf, IsFirstOf, IsFirstIn, IsSeveralIn, several_in};
+ghost use Rattle.safl_lower.specs.Joints.{IsAnyOf, IsFirstOf, IsFirstIn, IsSeveralIn};
 
 use crate::loads::Load;
 use crate::trees::{Several, any_of, first_of, several_of};
@@ -180,7 +180,7 @@ pub fn join_bits(
     ensures tidy { IsTidy net.new }
     ensures built { OnOk result (Builds net.old net.new (total bit_joins rows.now)) }
     ensures count { IfOk result (λ bits. length bits.items ≡ length rows.now) }
-    ensures joined { IfOk result (λ bits. (i : ℕ) → IsAnyOf net.new (row_at rows.now i) (sig_in (slice_get bits.items i))) }
+    ensures joined { IfOk result (λ bits. (i : ℕ) → IsAnyOf net.new (row_at rows.now i) (entry_in (slice_get bits.items i))) }
 {
     join_rows(alloc, net, rows)
 }
@@ -197,7 +197,7 @@ pub fn join_loads(
     ensures built { OnOk result (Builds net.old net.new (total load_joins rows.now)) }
     ensures count { IfOk result (λ all. length all.items ≡ length rows.now) }
     ensures fits { (ws : ℕ → List ℕ) → RowsFit net.old rows.now ws → IfOk result (λ all. SomeFit net.new all.items ws) }
-    ensures joined { IfOk result (λ all. (i : ℕ) → IsFirstOf net.new (row_at rows.now i) (load_in (slice_get all.items i))) }
+    ensures joined { IfOk result (λ all. (i : ℕ) → IsFirstOf net.new (row_at rows.now i) (entry_in (slice_get all.items i))) }
 {
     join_rows(alloc, net, rows)
 }
@@ -213,7 +213,7 @@ pub fn join_several(
     ensures tidy { IsTidy net.new }
     ensures built { OnOk result (Builds net.old net.new (4 * total bit_joins rows.now)) }
     ensures count { IfOk result (λ all. length all.items ≡ length rows.now) }
-    ensures joined { IfOk result (λ all. (i : ℕ) → IsSeveralIn net.new (row_at rows.now i) (several_in (slice_get all.items i))) }
+    ensures joined { IfOk result (λ all. (i : ℕ) → IsSeveralIn net.new (row_at rows.now i) (entry_in (slice_get all.items i))) }
 {
     join_rows(alloc, net, rows)
 }

@@ -1,3 +1,4 @@
+mod Common
 pub mod titles
 pub mod layout
 pub mod equations

@@ -9,7 +9,7 @@ use Rattle.safl_net.specs.Growth.{Val, Wired, words}
 use Rattle.safl_net.specs.Bits.{on, gate}
 use Rattle.safl_calls.specs.Picks.{first}
 use Rattle.safl_lower.specs.declared.loads.Load.{Load}
-use Rattle.safl_lower.specs.Tables.{pin, taken_at, taken_from, sig_in, on_in, on_from, SomeFit, BitsFit}
+use Rattle.safl_lower.specs.Tables.{pin, taken_at, taken_from, entry_in, on_in, on_from, SomeFit, BitsFit}
 use Rattle.safl_lower.specs.Rows.{on_any, on_two, maybe_one}
 use Rattle.safl_unit.specs.declared.pins.Outcomes.{Outcomes}
 
@@ -48,7 +48,7 @@ pub record ShowsBelow (n : Netlist) (bits : List (Option Sig)) (count : ℕ) (sa
 -- the bits of those functions of a unit that are below a number
 unfoldable pub entry_row : Program → List (Option Sig) → ℕ → ℕ → List Sig
 entry_row C es u zero = []
-entry_row C es u (suc m) = entry_row C es u m ++ cond (u == C.unit m) (maybe_one (sig_in (slice_get es m))) []
+entry_row C es u (suc m) = entry_row C es u m ++ cond (u == C.unit m) (maybe_one (entry_in (slice_get es m))) []
 
 -- whether another bit of a row than `own` is 1: two are, or one is and `own` is not
 abbrev pub others_on : Val → List Sig → Option Sig → Bool

@@ -7,7 +7,7 @@ use Rattle.safl_term.specs.Sizes.{nodes}
 use Rattle.safl_net.specs.Netlist.{Netlist}
 use Rattle.safl_net.specs.Growth.{Val}
 use Rattle.safl_lower.specs.declared.loads.Load.{Load}
-use Rattle.safl_lower.specs.Tables.{load_in, taken, taken_at, taken_from, one_word}
+use Rattle.safl_lower.specs.Tables.{entry_in, taken, taken_at, taken_from, one_word}
 use Rattle.safl_lower.specs.Rows.{row_at}
 use Rattle.safl_lower.specs.declared.lowered.SitePorts.{SitePorts}
 use Rattle.safl_lower.specs.declared.lowered.Body.{Body}
@@ -43,5 +43,5 @@ maybe_load (Some l) = l ∷ []
 
 -- the first `count` loads are appended to the rows from number `first` on
 pub record PushesLoads (first count : ℕ) (own : List (Option Load)) (old new : List (Vec Load Global)) : Type 0 where
-  pub pushed : (i : ℕ) → i < count → row_at new (first + i) ≡ row_at old (first + i) ++ maybe_load (load_in (slice_get own i))
+  pub pushed : (i : ℕ) → i < count → row_at new (first + i) ≡ row_at old (first + i) ++ maybe_load (entry_in (slice_get own i))
   pub others : (h : ℕ) → (h < first) ⊎ (first + count ≤ h) → row_at new h ≡ row_at old h

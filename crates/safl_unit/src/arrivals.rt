@@ -7,7 +7,7 @@ ghost use Rattle.safl_sites.specs.Plan.{IsPlan};
 ghost use Rattle.safl_net.specs.Names.{IsTidy};
 ghost use Rattle.safl_lower.specs.Sources.{Builds, CanGrow};
 ghost use Rattle.safl_lower.specs.Rows.{maybe_one, row_at};
-ghost use Rattle.safl_lower.specs.Tables.{load_in, IsBitIn, BitsFit, SomeFit, JoinsSome};
+ghost use Rattle.safl_lower.specs.Tables.{entry_in, IsBitIn, BitsFit, SomeFit, JoinsSome};
 ghost use Rattle.safl_unit.specs.Stages.{OutcomesFit, GoesFit};
 ghost use Rattle.safl_unit.specs.Edges.{bit_of, ShowsEnds, ShowsArguments, ShowsStarts, ShowsClears, ShowsEntries};
 
@@ -240,7 +240,7 @@ fn load_bits(
 fn load_rows(alloc: Global, loads: &[Option<Load>], count: u32) -> Result<Vec<Vec<Sig>>, NoMemory>
     requires { length loads.now ≡ count }
     ensures count { IfOk result (λ rows. length rows.items ≡ count) }
-    ensures rows { IfOk result (λ rows. (i : ℕ) → row_at rows.items i ≡ maybe_one (bit_of (load_in (slice_get loads.now i)))) }
+    ensures rows { IfOk result (λ rows. (i : ℕ) → row_at rows.items i ≡ maybe_one (bit_of (entry_in (slice_get loads.now i)))) }
 {
     let mut rows = Vec::new(alloc);
     for i in 0..count {

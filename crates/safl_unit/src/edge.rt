@@ -37,9 +37,9 @@ pub fn edge(
     requires returns { HasReturns p.now.program p.now.choice net.old pins.now returns.now }
     requires outcomes { HasOutcomes p.now.program p.now.choice net.old pins.now outcomes.now }
     requires goes { HasGoes p.now.program p.now.choice net.old pins.now goes.now }
-    requires room { CanGrow net.old (1035 * p.now.program.functions + 32 * p.now.program.sites + 32) }
+    requires room { CanGrow net.old (1024 * p.now.program.functions + 32 * p.now.program.sites + 32) }
     ensures tidy { IsTidy net.new }
-    ensures built { OnOk result (Builds net.old net.new (1035 * p.now.program.functions + 32 * p.now.program.sites + 32)) }
+    ensures built { OnOk result (Builds net.old net.new (1024 * p.now.program.functions + 32 * p.now.program.sites + 32)) }
     ensures done { IfOk result (λ b. HasNext p.now.program p.now.choice net.new pins.now b) }
 {
     let events = edge_events(alloc, net, p, outcomes, goes)?;
@@ -62,13 +62,12 @@ pub fn next_units(
     ends: &[Option<Load>],
     starts: &[Option<Sig>],
 ) -> Result<Vec<UnitPins>, NoMemory>
-    requires settled { IsSettled net.old }
     requires pins { PinsFit p.now.program net.old pins.now }
     requires ends { EndsFit p.now.program net.old ends.now }
     requires starts { TestsFit p.now.program net.old starts.now }
-    requires room { CanGrow net.old (16 * p.now.program.functions) }
+    requires room { CanGrow net.old (5 * p.now.program.functions) }
     ensures tidy { IsTidy net.new }
-    ensures built { OnOk result (Builds net.old net.new (16 * p.now.program.functions)) }
+    ensures built { OnOk result (Builds net.old net.new (5 * p.now.program.functions)) }
     ensures checked { IsChecked p.now.checked }
     ensures done { IfOk result (λ all. AllUnitsNext p.now.program net.new pins.now ends.now starts.now all.items) }
 {
@@ -95,12 +94,11 @@ fn unit_after(
     start: Option<Sig>,
     now: UnitPins,
 ) -> Result<UnitPins, NoMemory>
-    requires settled { IsSettled net.old }
     requires fits { (w : ℕ) × FitsIn net.old end.now (w ∷ []) × UnitFits net.old now w }
     requires start { IsBitIn net.old start }
-    requires room { CanGrow net.old 16 }
+    requires room { CanGrow net.old 5 }
     ensures tidy { IsTidy net.new }
-    ensures built { OnOk result (Builds net.old net.new 16) }
+    ensures built { OnOk result (Builds net.old net.new 5) }
     ensures done { GivesUnit result net.old net.new all.now unit end.now start now }
 {
     if unit < all.len() {

@@ -1,6 +1,6 @@
 //! The next words of the registers of one unit, one function and one site.
 
-ghost use Rattle.std.specs.Prelude.{◌≡◌, ℕ, ◌+◌, ◌*◌, ◌&&◌, ◌||◌, true, List, [], ◌∷◌, not, length, Some, IfOk, OnOk};
+ghost use Rattle.std.specs.Prelude.{◌≡◌, ℕ, ◌+◌, ◌*◌, ◌&&◌, ◌||◌, true, List, [], ◌∷◌, not, length, Some, IfOk, OnOk, unwrap_or};
 ghost use Rattle.safl_net.specs.Names.{IsTidy};
 ghost use Rattle.safl_net.specs.Growth.{Val, Wired};
 ghost use Rattle.safl_net.specs.Bits.{on};
@@ -13,9 +13,9 @@ ghost use Rattle.safl_unit.specs.Steps.{UnitStep, SiteStep, KeepsMember, IsNextM
 use crate::arrivals::load_bit;
 use crate::pins::{MemberPins, SitePins, UnitPins};
 use crate::returns::site_word;
-use safl_lower::gates::{and_none, either, or_some, zero};
+use safl_lower::gates::{and_none, either, mux, or_some, zero};
 use safl_lower::loads::Load;
-use safl_lower::resets::{reset_word, reset_words};
+use safl_lower::resets::reset_words;
 use safl_net::{Net, Sig};
 use safl_word::NoMemory;
 use std::alloc::Global;
@@ -28,12 +28,11 @@ pub fn next_unit(
     start: Option<Sig>,
     unit: UnitPins,
 ) -> Result<UnitPins, NoMemory>
-    requires settled { IsSettled net.old }
     requires fits { (w : ℕ) × FitsIn net.old end.now (w ∷ []) × UnitFits net.old unit w }
     requires start { IsBitIn net.old start }
-    requires room { CanGrow net.old 16 }
+    requires room { CanGrow net.old 5 }
     ensures tidy { IsTidy net.new }
-    ensures built { OnOk result (Builds net.old net.new 16) }
+    ensures built { OnOk result (Builds net.old net.new 5) }
     ensures fits { (w : ℕ) → FitsIn net.old end.now (w ∷ []) → UnitFits net.old unit w → IfOk result (λ y. UnitFits net.new y w) }
     ensures shows { IfOk result (λ y. (v : Val) → Wired net.new v → UnitStep v (taken_in v end.now) (on_in v start) unit y) }
 {
@@ -41,7 +40,7 @@ pub fn next_unit(
     let started = or_some(net, start, unit.run)?;
     let run = and_none(net, started, bit)?;
     let fin = some_bit(net, bit)?;
-    let res = reset_word(net, end, unit.res)?;
+    let res = load_word(net, end, unit.res)?;
     Ok(UnitPins { run, fin, res })
 }
 
@@ -157,5 +156,22 @@ fn some_bit(net: &mut Net, bit: Option<Sig>) -> Result<Sig, NoMemory>
     match bit {
         None => zero(net),
         Some(bit) => Ok(bit),
+    }
+}
+
+// The word of a load if it is there and taken, else `word`.
+fn load_word(net: &mut Net, load: &Option<Load>, word: Sig) -> Result<Sig, NoMemory>
+    requires fits { (w : ℕ) × FitsIn net.old load.now (w ∷ []) × IsSource net.old word w }
+    requires room { CanGrow net.old 1 }
+    ensures built { Builds net.old net.new 1 }
+    ensures fits { (w : ℕ) → FitsIn net.old load.now (w ∷ []) → IsSource net.old word w → IfOk result (λ s. IsSource net.new s w) }
+    ensures value { IfOk result (λ s. (v : Val) → Wired net.new v → v s.0 ∷ [] ≡ unwrap_or (taken_in v load.now) (v word.0 ∷ [])) }
+{
+    match load {
+        None => Ok(word),
+        Some(load) => {
+            let other = load.words[0];
+            mux(net, load.bit, other, word)
+        }
     }
 }

@@ -1,27 +1,17 @@
 -- Registers that a bank shows agree with those that its names show.
+use Rattle.safl_unit.proofs.Common.{Agree, Bank, Choice, Names, Program, SitePins, UnitPins, Val, Word, codes, on, unit_for, unwrap_or}
 use Rattle.std.proofs.Common.{◌≡◌, ℕ, zero, suc, ◌<◌, List, Some, None, Bool, true, false, cond, not, slice_get, ◌==◌, ◌&&◌, ◌||◌, nat_lt, nat_le, is_some, refl, sym, ap, subst, ◌∙◌, arith}
-use Rattle.safl_term.specs.Names.{Names}
-use Rattle.safl_sites.specs.Plan.{Choice}
-use Rattle.std.specs.Prelude.{codes, unwrap_or}
 use Rattle.std.proofs.lemmas.Bool.{eq-eqb, eqb-true, ne_eqb, lt-ltb, ltb-true, leb-true, and_parts, and_right, false≢true}
-use Rattle.safl_word.specs.Words.{Word}
-use Rattle.safl_term.specs.Program.{Program, unit_for}
 use Rattle.safl_term.specs.Checked.{CheckedProgram, IsChecked}
 use Rattle.safl_term.specs.Readiness.{wanted}
 use Rattle.safl_calls.specs.Picks.{first}
 use Rattle.safl_calls.proofs.Basics.{all_none}
-use Rattle.safl_net.specs.Growth.{Val}
 use Rattle.safl_circuit.specs.Equations.{Registers, Inputs, ends, starts, end_word, go, want, body_wants, path, on_wires, ret, wants_at, clears, next}
 use Rattle.safl_circuit.proofs.Searched.{end_in, go_in}
 use Rattle.safl_circuit.specs.Names.{of_function, of_site, is_unit, is_site, numbers, view}
-use Rattle.safl_circuit.specs.Scheme.{Agree}
-use Rattle.safl_unit.specs.declared.pins.UnitPins.{UnitPins}
-use Rattle.safl_unit.specs.declared.pins.SitePins.{SitePins}
-use Rattle.safl_unit.specs.declared.pins.Bank.{Bank}
 use Rattle.safl_unit.specs.Cycles.{BankShows}
 use Rattle.safl_unit.proofs.layout.Lining.{IsFull, there}
 use Rattle.safl_unit.proofs.assembly.Viewing.{FirstsShow}
-use Rattle.safl_net.specs.Bits.{on}
 
 cond_none : (b : Bool) → cond b false false ≡ false
 cond_none true = refl

@@ -1,24 +1,13 @@
 -- A circuit that is finished is whole, and its signals stand in order.
+use Rattle.safl_unit.proofs.Common.{AreTemps, Bank, Choice, Controls, Grows, HasCell, IsNetlist, Names, Pins, Program, Scheme}
+use Rattle.safl_unit.proofs.Common.{append_cancel_left, codes, kind_in, wires}
 use Rattle.std.proofs.Common.{◌≡◌, ℕ, suc, List, [], ◌∷◌, ◌++◌, map, Option, Some, is_some, slice_get, refl, sym, ap, subst, ◌∙◌, append_assoc}
-use Rattle.std.specs.Prelude.{codes}
-use Rattle.std.proofs.lemmas.List.{append_cancel_left}
-use Rattle.safl_term.specs.Program.{Program}
 use Rattle.safl_net.specs.Netlist.{Netlist, Signal, Kind, Input, Reg, Wire, Cell, width_in}
-use Rattle.safl_net.specs.Names.{wires}
-use Rattle.safl_net.specs.Growth.{HasCell, AreTemps, Grows}
-use Rattle.safl_net.specs.Rules.{IsNetlist}
 use Rattle.safl_net.specs.Whole.{IsWhole}
 use Rattle.safl_net.specs.Arranged.{IsInput, IsRegister, IsWire, Each, IsInOrder}
-use Rattle.safl_net.specs.Making.{kind_in}
 use Rattle.safl_net.proofs.Reading.{place_of, output_place_of}
-use Rattle.safl_sites.specs.Plan.{Choice}
-use Rattle.safl_term.specs.Names.{Names}
 use Rattle.safl_net.proofs.EachOf.{each_join}
 use Rattle.safl_circuit.specs.Layout.{Line, layout_inputs}
-use Rattle.safl_circuit.specs.Scheme.{Scheme}
-use Rattle.safl_unit.specs.declared.pins.Bank.{Bank}
-use Rattle.safl_unit.specs.declared.pins.Pins.{Pins}
-use Rattle.safl_unit.specs.declared.pins.Controls.{Controls}
 use Rattle.safl_unit.specs.Ties.{register_ties, wire_ties}
 use Rattle.safl_unit.specs.Finished.{input_line, set_register, set_wire, declared_signals, declared_net, Finishes}
 

@@ -1,36 +1,17 @@
 -- Where the registers and named wires of a circuit stand, and what they take.
+use Rattle.safl_unit.proofs.Common.{AreSources, Bank, CheckedProgram, Choice, Controls, EachAt, Grows, IsChecked, IsSettled, IsSource}
+use Rattle.safl_unit.proofs.Common.{IsSteady, IsTidy, MemberPins, Names, Pins, Program, Says, Settles, Sig, SitePins, UnitPins, codes}
+use Rattle.safl_unit.proofs.Common.{kind_in, length-map, many, pin, slice_get_within, sources_length, unit_for, with_output}
 use Rattle.std.proofs.Common.{◌≡◌, ℕ, zero, suc, ◌+◌, ◌-◌, ◌<◌, ◌≤◌, List, [], ◌∷◌, ◌++◌, map, length, length-append, Option, Some, None, Bool, true}
-use Rattle.safl_term.specs.Names.{Names}
-use Rattle.safl_sites.specs.Plan.{Choice}
 use Rattle.std.proofs.Common.{false, cond, slice_get, nat_lt, ◌==◌, ◌⊎◌, inl, inr, refl, sym, ap, subst, ◌∙◌, arith, append_assoc}
-use Rattle.std.specs.Prelude.{codes}
 use Rattle.std.proofs.lemmas.Bool.{ltb-true}
-use Rattle.std.proofs.lemmas.List.{length-map}
-use Rattle.std.proofs.lemmas.Option.{slice_get_within}
 use Rattle.safl_word.proofs.Lists.{get_front, get_map}
-use Rattle.safl_term.specs.Program.{Program, unit_for}
-use Rattle.safl_term.specs.Checked.{CheckedProgram, IsChecked}
-use Rattle.safl_net.specs.declared.cell.Sig.{Sig}
 use Rattle.safl_net.specs.Netlist.{Netlist, Signal, Reg, Wire, width_in, width_of}
-use Rattle.safl_net.specs.Making.{kind_in, with_output}
-use Rattle.safl_net.specs.Names.{IsTidy}
-use Rattle.safl_net.specs.Settled.{IsSteady, IsSettled, Settles}
-use Rattle.safl_net.specs.Growth.{Grows, Says}
 use Rattle.safl_net.proofs.Growth.{within, width_is}
 use Rattle.safl_net.proofs.Settling.{settles_on, settles_output}
 use Rattle.safl_net.proofs.Saying.{says_on, says_output}
-use Rattle.safl_circuit.specs.Equations.{many}
 use Rattle.safl_circuit.specs.Names.{of_function, of_site, of_param}
 use Rattle.safl_circuit.specs.Layout.{named, layout_inputs, layout_registers, layout_wires}
-use Rattle.safl_lower.specs.Sources.{IsSource, AreSources}
-use Rattle.safl_lower.specs.Tables.{pin, EachAt}
-use Rattle.safl_lower.proofs.Cells.{sources_length}
-use Rattle.safl_unit.specs.declared.pins.UnitPins.{UnitPins}
-use Rattle.safl_unit.specs.declared.pins.MemberPins.{MemberPins}
-use Rattle.safl_unit.specs.declared.pins.SitePins.{SitePins}
-use Rattle.safl_unit.specs.declared.pins.Bank.{Bank}
-use Rattle.safl_unit.specs.declared.pins.Pins.{Pins}
-use Rattle.safl_unit.specs.declared.pins.Controls.{Controls}
 use Rattle.safl_unit.specs.Cycles.{BankFits}
 use Rattle.safl_unit.specs.Ties.{Tie, line_of, sig_of, ties, tied, unit_ties, member_ties, function_ties, call_registers, site_ties, register_ties, want_wire, body_ties, call_ties, wire_ties}
 use Rattle.safl_unit.specs.Finished.{input_line, open_register, open_wire, set_register, set_wire, declared_net, ArePins, ControlsFit, Finishes}

@@ -1,12 +1,8 @@
 -- The lines, kinds and numbers of a circuit's signals, from the list of its signals.
+use Rattle.safl_unit.proofs.Common.{AreTemps, HasCell, append-nil, as_word, bytes_eq-Decides, codes, words}
 use Rattle.std.proofs.Common.{◌≡◌, ℕ, zero, suc, List, [], ◌∷◌, ◌++◌, map, length, length-append, Option, Some, None, Bool, true, false, cond}
 use Rattle.std.proofs.Common.{slice_get, slice_index, bytes_eq, decimal, refl, sym, ap, subst, ◌∙◌, arith, append_assoc}
-use Rattle.std.specs.Prelude.{codes}
-use Rattle.std.proofs.lemmas.List.{append-nil}
-use Rattle.std.proofs.lemmas.Slice.Eq.{bytes_eq-Decides}
-use Rattle.safl_word.specs.Words.{as_word}
 use Rattle.safl_net.specs.Netlist.{Netlist, Signal, Kind, Input, Reg, Wire, IsSet, AllSet, width_in, width_of}
-use Rattle.safl_net.specs.Growth.{HasCell, AreTemps, words}
 use Rattle.safl_net.specs.Valuations.{Valuation, signal_word, kind_reset, reset_number, reset_state}
 use Rattle.safl_net.specs.Runs.{is_argument, input_numbers}
 use Rattle.safl_circuit.specs.Names.{as_words}

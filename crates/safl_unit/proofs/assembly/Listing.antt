@@ -1,24 +1,10 @@
 -- The signals that registers and named wires take, listed one after another.
+use Rattle.safl_unit.proofs.Common.{Bank, CheckedProgram, Choice, Controls, MemberPins, Names, Program, Sig, SitePins, UnitPins, append-nil}
+use Rattle.safl_unit.proofs.Common.{argument_lines, codes, eqb-false, eqb-true, length-map, map-append, of_param, pin, unit_for}
 use Rattle.std.proofs.Common.{◌≡◌, ℕ, zero, suc, ◌+◌, ◌*◌, ◌≤◌, List, [], ◌∷◌, ◌++◌, map, length, length-append, Option, Some, None, Bool, true}
-use Rattle.safl_term.specs.Names.{Names}
 use Rattle.std.proofs.Common.{false, cond, slice_get, ◌==◌, nat_lt, refl, sym, ap, ◌∙◌, arith, append_assoc}
-use Rattle.std.specs.Prelude.{codes}
-use Rattle.std.proofs.lemmas.Bool.{eqb-true, eqb-false}
-use Rattle.std.proofs.lemmas.List.{append-nil, length-map, map-append}
-use Rattle.safl_term.specs.Program.{Program, unit_for}
-use Rattle.safl_term.specs.Checked.{CheckedProgram}
-use Rattle.safl_net.specs.declared.cell.Sig.{Sig}
-use Rattle.safl_sites.specs.Plan.{Choice}
-use Rattle.safl_circuit.specs.Names.{of_param}
 use Rattle.safl_circuit.specs.Layout.{Line, lines, function_wires, site_wires, layout_wires}
-use Rattle.safl_lower.specs.Tables.{pin}
-use Rattle.safl_unit.specs.declared.pins.UnitPins.{UnitPins}
-use Rattle.safl_unit.specs.declared.pins.MemberPins.{MemberPins}
-use Rattle.safl_unit.specs.declared.pins.SitePins.{SitePins}
-use Rattle.safl_unit.specs.declared.pins.Bank.{Bank}
-use Rattle.safl_unit.specs.declared.pins.Controls.{Controls}
 use Rattle.safl_unit.specs.Ties.{Tie, line_of, sig_of, ties, tied, unit_ties, member_ties, function_ties, call_registers, site_ties, register_ties, body_ties, call_ties, wire_ties}
-use Rattle.safl_unit.specs.Declaring.{argument_lines}
 use Rattle.safl_unit.specs.Setting.{at_ties, own_ties}
 use Rattle.safl_unit.proofs.layout.Declaring.{param_lines_long}
 use Rattle.safl_unit.proofs.layout.Pinning.{tied_sigs, body_wires_count}

@@ -1,9 +1,7 @@
 -- Ties in a list, and the signals that stand for them.
+use Rattle.safl_unit.proofs.Common.{Sig, Signal, eqb-false, eqb-true}
 use Rattle.std.proofs.Common.{◌≡◌, ℕ, zero, suc, ◌<◌, List, [], ◌∷◌, ◌++◌, map, length, length-append, Some, Bool, true, false, cond, ◌==◌, slice_get}
 use Rattle.std.proofs.Common.{◌⊎◌, inl, inr, refl, sym, ap, subst, ◌∙◌, arith, append_assoc}
-use Rattle.std.proofs.lemmas.Bool.{eqb-true, eqb-false}
-use Rattle.safl_net.specs.declared.cell.Sig.{Sig}
-use Rattle.safl_net.specs.Netlist.{Signal}
 use Rattle.safl_unit.specs.Ties.{Tie, sig_of, ties, numbered}
 
 -- it stands in the list

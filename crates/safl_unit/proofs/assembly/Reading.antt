@@ -1,9 +1,8 @@
 -- What is read by name in a valuation that fits.
+use Rattle.safl_unit.proofs.Common.{IsNetlist, bytes_eq-Decides}
 use Rattle.std.proofs.Common.{◌≡◌, ℕ, zero, suc, ◌+◌, List, [], ◌∷◌, Some, Bool, true, false, cond, slice_get, refl, sym, ap, ◌∙◌, arith, bytes_eq}
-use Rattle.std.proofs.lemmas.Slice.Eq.{bytes_eq-Decides}
 use Rattle.safl_net.specs.Netlist.{Netlist, Signal, Reg, place}
 use Rattle.safl_net.specs.Valuations.{Valuation, signal_word, read, read_next, next_at, next_number, number_at}
-use Rattle.safl_net.specs.Rules.{IsNetlist}
 use Rattle.safl_net.proofs.Reading.{place_of}
 
 -- ---- names

@@ -1,22 +1,12 @@
 -- A circuit that is finished keeps its scheme and has its plan.
+use Rattle.safl_unit.proofs.Common.{Agree, AreTemps, Bank, CheckedProgram, Choice, Controls, Cycle, Grows, IsChecked, IsNetlist, Names}
+use Rattle.safl_unit.proofs.Common.{Pins, PinsFit, Program, Scheme, Sig, Val, Wired, Wires, Word, append_cancel_left, codes, eqb-false}
+use Rattle.safl_unit.proofs.Common.{eqb-true, length-map, lt-ltb, params_named, pin, sources_length, unit_for, wires, words}
 use Rattle.std.proofs.Common.{◌≡◌, ℕ, zero, suc, ◌+◌, ◌*◌, ◌<◌, ◌≤◌, List, [], ◌∷◌, ◌++◌, map, length, length-append, Some, Bool, true, false, cond}
-use Rattle.safl_term.specs.Names.{Names}
-use Rattle.safl_sites.specs.Plan.{Choice}
 use Rattle.std.proofs.Common.{slice_get, nat_lt, ◌==◌, inl, inr, refl, sym, ap, subst, ◌∙◌, arith, append_assoc}
-use Rattle.std.specs.Prelude.{codes}
-use Rattle.std.proofs.lemmas.Bool.{lt-ltb, eqb-true, eqb-false}
-use Rattle.std.proofs.lemmas.List.{append_cancel_left, length-map}
-use Rattle.safl_word.specs.Words.{Word}
 use Rattle.safl_word.proofs.Lists.{get_front, get_map, get_mapped}
-use Rattle.safl_term.specs.Program.{Program, unit_for}
-use Rattle.safl_term.specs.Checked.{CheckedProgram, IsChecked}
-use Rattle.safl_term.proofs.HeldByChecked.{params_named}
-use Rattle.safl_net.specs.declared.cell.Sig.{Sig}
 use Rattle.safl_net.specs.declared.cell.Op.TheVariants.{Copy}
 use Rattle.safl_net.specs.Netlist.{Netlist, Signal, Wire, width_in, width_of}
-use Rattle.safl_net.specs.Names.{wires}
-use Rattle.safl_net.specs.Rules.{IsNetlist}
-use Rattle.safl_net.specs.Growth.{Val, Wired, AreTemps, Grows, words}
 use Rattle.safl_net.specs.Valuations.{Valuation, Fits, signal_word, read, read_next}
 use Rattle.safl_net.proofs.Growth.{width_is, wires_append}
 use Rattle.safl_net.proofs.CellWords.{wired_shown}
@@ -25,13 +15,6 @@ use Rattle.safl_circuit.specs.Equations.{Registers, Inputs, next}
 use Rattle.safl_circuit.specs.Names.{of_function, of_site, registers_now, registers_next, input_now}
 use Rattle.safl_circuit.specs.Layout.{Line, lines, site_wires, each_line, input_kind, register_kind, wire_kind, output_lines, layout_inputs}
 use Rattle.safl_circuit.specs.Layout.{layout_registers, layout_wires, layout_outputs, temporaries, IsCopy, HasPlan}
-use Rattle.safl_circuit.specs.Scheme.{Agree, Wires, Scheme}
-use Rattle.safl_lower.specs.Tables.{pin}
-use Rattle.safl_lower.proofs.Cells.{sources_length}
-use Rattle.safl_unit.specs.declared.pins.Bank.{Bank}
-use Rattle.safl_unit.specs.declared.pins.Pins.{Pins}
-use Rattle.safl_unit.specs.declared.pins.Controls.{Controls}
-use Rattle.safl_unit.specs.Cycles.{PinsFit, Cycle}
 use Rattle.safl_unit.specs.Stages.{HasNext}
 use Rattle.safl_unit.specs.Ties.{Tie, line_of, sig_of, numbered, ties, register_ties, want_wire, body_ties, call_ties, wire_ties}
 use Rattle.safl_unit.specs.Finished.{input_line, open_register, open_wire, set_register, set_wire, declared_signals, declared_net, ArePins, HasControls, Finishes}

@@ -1,21 +1,16 @@
 -- Registers and wires that are set one after another.
+use Rattle.safl_unit.proofs.Common.{EachAt, IsSteady, Says, Settles, Sig, eqb-false, eqb-true, take_suc}
 use Rattle.std.proofs.Common.{◌≡◌, ℕ, zero, suc, ◌+◌, ◌<◌, ◌≤◌, List, [], ◌∷◌, ◌++◌, map, length, length-append, take, Some, None, slice_get, ◌⊎◌}
 use Rattle.std.proofs.Common.{inl, inr, refl, sym, ap, subst, ◌∙◌, arith, append_assoc, true}
-use Rattle.std.proofs.lemmas.Bool.{eqb-true, eqb-false}
 use Rattle.std.proofs.Common.{Bool, false, ◌==◌}
 use Rattle.std.proofs.lemmas.List.{length-map, length-take-le, map-append}
-use Rattle.safl_word.proofs.Lists.{take_suc}
-use Rattle.safl_net.specs.declared.cell.Sig.{Sig}
 use Rattle.safl_net.specs.Netlist.{Netlist, Signal, Kind, Reg, Wire, width_of}
 use Rattle.safl_net.specs.Making.{with_kind, set_kind, kind_in, kind_at}
 use Rattle.safl_net.specs.Names.{one_wire, IsTidy}
-use Rattle.safl_net.specs.Settled.{IsSteady, Settles}
-use Rattle.safl_net.specs.Growth.{Says}
 use Rattle.safl_net.proofs.Settling.{settles_same, settles_on, settles_next, settles_cell, steady_cell}
 use Rattle.safl_net.proofs.Saying.{says_same, says_on, says_next, says_cell}
 use Rattle.safl_net.proofs.SignalKinds.{set_other, tidy_kind}
 use Rattle.safl_net.proofs.Keeping.{set_length, set_width}
-use Rattle.safl_lower.specs.Tables.{EachAt}
 use Rattle.safl_unit.specs.Ties.{Tie, line_of, sig_of}
 use Rattle.safl_unit.specs.Finished.{open_register, open_wire, set_register, set_wire}
 use Rattle.safl_unit.specs.Setting.{with_kinds, next_kind, copy_kind, Takes}

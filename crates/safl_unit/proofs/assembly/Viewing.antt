@@ -1,24 +1,9 @@
 -- A bank whose signals have the numbers of its registers shows the registers of these numbers.
+use Rattle.safl_unit.proofs.Common.{Bank, CheckedProgram, Choice, EachAt, IsChecked, MemberPins, Names, Program, Sig, SitePins, UnitPins}
+use Rattle.safl_unit.proofs.Common.{Val, Word, as_word, codes, eq-eqb, le-leb, lt-ltb, named, params_named, slice_get_within, words}
 use Rattle.std.proofs.Common.{◌≡◌, ℕ, suc, ◌<◌, List, [], ◌∷◌, map, length, Some, true, cond, slice_get, ◌==◌, ◌&&◌, nat_le, inl, inr, refl, sym, ap, subst, ◌∙◌, arith}
-use Rattle.safl_term.specs.Names.{Names}
-use Rattle.safl_sites.specs.Plan.{Choice}
-use Rattle.std.specs.Prelude.{codes}
-use Rattle.std.proofs.lemmas.Option.{slice_get_within}
-use Rattle.std.proofs.lemmas.Bool.{eq-eqb, lt-ltb, le-leb}
-use Rattle.safl_word.specs.Words.{Word, as_word}
-use Rattle.safl_term.specs.Program.{Program}
-use Rattle.safl_term.specs.Checked.{CheckedProgram, IsChecked}
-use Rattle.safl_term.proofs.HeldByChecked.{params_named}
-use Rattle.safl_net.specs.declared.cell.Sig.{Sig}
-use Rattle.safl_net.specs.Growth.{Val, words}
 use Rattle.safl_circuit.specs.Equations.{Registers, many}
 use Rattle.safl_circuit.specs.Names.{of_function, of_site, of_param, is_unit, is_site, as_words, view}
-use Rattle.safl_circuit.specs.Layout.{named}
-use Rattle.safl_lower.specs.Tables.{EachAt}
-use Rattle.safl_unit.specs.declared.pins.UnitPins.{UnitPins}
-use Rattle.safl_unit.specs.declared.pins.MemberPins.{MemberPins}
-use Rattle.safl_unit.specs.declared.pins.SitePins.{SitePins}
-use Rattle.safl_unit.specs.declared.pins.Bank.{Bank}
 use Rattle.safl_unit.specs.Cycles.{UnitShows, MemberShows, SiteShows, BankShows}
 use Rattle.safl_unit.specs.Ties.{Tie, tied, ties, unit_ties, member_ties, function_ties, call_registers, site_ties, register_ties}
 use Rattle.safl_unit.proofs.assembly.Members.{Among, among_left, among_right, among_ties, among_cond}

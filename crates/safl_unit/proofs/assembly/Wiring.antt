@@ -1,27 +1,12 @@
 -- Named wires that copy what the controls show are as the equations say.
+use Rattle.safl_unit.proofs.Common.{Choice, Controls, Cycle, HasControls, IsSource, Names, Netlist, Pins, PinsFit, Program, Sig, UnitPins}
+use Rattle.safl_unit.proofs.Common.{Val, Wired, Wires, Word, codes, on, pin, unit_for}
 use Rattle.std.proofs.Common.{◌≡◌, ℕ, zero, suc, ◌<◌, ◌≤◌, Some, Bool, true, false, cond, not, is_some, slice_get, ◌==◌, ◌&&◌, refl, sym, ap, ◌∙◌, arith}
-use Rattle.safl_term.specs.Names.{Names}
-use Rattle.safl_sites.specs.Plan.{Choice}
-use Rattle.std.specs.Prelude.{codes}
-use Rattle.safl_word.specs.Words.{Word}
-use Rattle.safl_term.specs.Program.{Program, unit_for}
-use Rattle.safl_net.specs.declared.cell.Sig.{Sig}
-use Rattle.safl_net.specs.Netlist.{Netlist}
 use Rattle.safl_net.specs.Valuations.{Valuation, read, read_output}
-use Rattle.safl_net.specs.Growth.{Val, Wired}
 use Rattle.safl_net.proofs.Growth.{fits}
-use Rattle.safl_net.specs.Bits.{on}
 use Rattle.safl_circuit.specs.Equations.{Registers, Inputs, want, wants_at, go}
 use Rattle.safl_calls.specs.Picks.{first}
 use Rattle.safl_circuit.specs.Names.{of_function, of_site, bit}
-use Rattle.safl_circuit.specs.Scheme.{Wires}
-use Rattle.safl_lower.specs.Sources.{IsSource}
-use Rattle.safl_lower.specs.Tables.{pin}
-use Rattle.safl_unit.specs.declared.pins.UnitPins.{UnitPins}
-use Rattle.safl_unit.specs.declared.pins.Pins.{Pins}
-use Rattle.safl_unit.specs.declared.pins.Controls.{Controls}
-use Rattle.safl_unit.specs.Cycles.{PinsFit, Cycle}
-use Rattle.safl_unit.specs.Finished.{HasControls}
 
 -- each named wire and output has the number of its control
 pub record Copied (C : Program) (D : Names) (P : Choice) (n : Netlist) (v : Valuation) (w : Val) (T : Controls) (main : UnitPins) : Type 0 where

@@ -1,34 +1,19 @@
 -- The sites of a unit in a row, one by one.
+use Rattle.safl_unit.proofs.Common.{Builds, CheckedProgram, Choice, IsChecked, IsSource, Load, Netlist, Program, Sig, UnitPins, Val, Wired}
+use Rattle.safl_unit.proofs.Common.{called, eq_flip, length-map, on, or-false, slice_get_read, summed, unit_for, wired_before}
 use Rattle.std.proofs.Common.{◌≡◌, ℕ, zero, suc, ◌+◌, ◌-◌, ◌<◌, ◌≤◌, ◌==◌, ◌||◌, ◌&&◌, List, [], ◌∷◌, ◌++◌, length, length-append, map, take, cond, append_assoc}
-use Rattle.safl_sites.specs.Plan.{Choice}
 use Rattle.std.proofs.Common.{not, ◌⊎◌, Bool, true, false, Option, Some, Vec, Global, is_some, slice_get, slice_index_or, inl, inr, refl, sym, ap}
 use Rattle.std.proofs.Common.{subst, ◌∙◌, add-one, arith}
 use Rattle.std.proofs.lemmas.Bool.{eq-eqb, ne_eqb, cases_eq}
-use Rattle.std.proofs.lemmas.Option.{slice_get_read}
 use Rattle.std.proofs.Math.Seq.{take-append_seam}
-use Rattle.std.proofs.Math.Bool.{or-false}
-use Rattle.std.proofs.lemmas.List.{length-map}
-use Rattle.safl_word.specs.Lists.{summed}
 use Rattle.safl_word.proofs.Lists.{get_end, get_in_front, get_pushed, get_some, nil_at_end}
-use Rattle.safl_word.proofs.Naturals.{eq_flip}
-use Rattle.safl_term.specs.Checked.{CheckedProgram, IsChecked}
-use Rattle.safl_term.specs.Program.{Program, unit_for}
 use Rattle.safl_calls.specs.Picks.{first}
-use Rattle.safl_net.specs.declared.cell.Sig.{Sig}
-use Rattle.safl_net.specs.Netlist.{Netlist}
-use Rattle.safl_net.specs.Growth.{Val, Wired}
-use Rattle.safl_net.proofs.Growth.{wired_before}
-use Rattle.safl_net.specs.Bits.{on}
 use Rattle.safl_circuit.specs.Equations.{Registers, Inputs, want, wants_at, go}
-use Rattle.safl_lower.specs.declared.loads.Load.{Load}
 use Rattle.safl_lower.specs.Tables.{bit_or, on_in, taken_at, LoadsFit}
-use Rattle.safl_lower.specs.Sources.{IsSource, Builds}
 use Rattle.safl_lower.specs.Rows.{AreBits, on_any, frees, row_in, row_at}
 use Rattle.safl_lower.proofs.JoinedRows.{any_append, row_kept, row_free, frees_long, bits_push}
-use Rattle.safl_unit.specs.declared.pins.UnitPins.{UnitPins}
 use Rattle.safl_unit.specs.Arbiters.{want_at, site_row, RowsFree}
 use Rattle.safl_unit.proofs.equations.Granting.{first_of, next_of, site_go, want_shown}
-use Rattle.safl_unit.specs.Stages.{called}
 
 pub row_zero : (C : Program) (ls : List Load) (u : ℕ) → site_row C ls u 0 ≡ []
 unfolding site_row

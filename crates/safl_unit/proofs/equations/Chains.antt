@@ -1,28 +1,15 @@
 -- Tables of bits and loads, by one entry more.
+use Rattle.safl_unit.proofs.Common.{AreSources, Builds, IsSource, Load, Netlist, Outcomes, Program, Sig, Val, Wired, Word, arity, gate, on}
+use Rattle.safl_unit.proofs.Common.{or_else, or_is, slice_get_read, sources_kept, sources_length, wired_before, words}
 use Rattle.std.proofs.Common.{◌≡◌, ℕ, zero, suc, ◌+◌, ◌<◌, ◌≤◌, List, [], ◌∷◌, ◌++◌, length, map, take, Option, Some, None, Vec, Global, Bool, true}
 use Rattle.std.proofs.Common.{false, cond, ◌&&◌, ◌||◌, ◌==◌, slice_get, slice_index_or, is_some, refl, sym, ap, subst, ◌∙◌, add-one, arith}
-use Rattle.std.proofs.lemmas.Option.{slice_get_read}
-use Rattle.safl_word.specs.Words.{Word}
 use Rattle.safl_word.proofs.Booleans.{or_assoc, or_none}
-use Rattle.safl_term.specs.Program.{Program, arity}
-use Rattle.safl_term.specs.Readiness.{or_else}
-use Rattle.safl_term.proofs.OrElse.{or_is}
 use Rattle.safl_calls.specs.Picks.{first}
 use Rattle.safl_calls.proofs.Basics.{first_zero}
-use Rattle.safl_net.specs.declared.cell.Sig.{Sig}
-use Rattle.safl_net.specs.Netlist.{Netlist}
-use Rattle.safl_net.specs.Growth.{Val, Wired, words}
-use Rattle.safl_net.proofs.Growth.{wired_before}
-use Rattle.safl_net.specs.Bits.{on, gate}
-use Rattle.safl_lower.specs.declared.loads.Load.{Load}
-use Rattle.safl_lower.specs.Sources.{IsSource, AreSources, Builds}
-use Rattle.safl_lower.specs.Tables.{load_in, sig_in, taken, taken_in, taken_at, taken_from, on_in, on_from, FitsIn, LoadFits, SomeFit, IsBitIn, BitsFit}
+use Rattle.safl_lower.specs.Tables.{entry_in, taken, taken_in, taken_at, taken_from, on_in, on_from, FitsIn, LoadFits, SomeFit, IsBitIn, BitsFit}
 use Rattle.safl_lower.specs.Rows.{maybe_one, AreBits, AllFit, on_any, first_taken, bit_joins, total, row_at, any_at, first_at, RowsAreBits, RowsFit}
 use Rattle.safl_lower.specs.Joints.{IsAnyOf, IsFirstOf}
 use Rattle.safl_lower.proofs.JoinedRows.{any_pushed, bits_pushed, first_pushed, fit_pushed}
-use Rattle.safl_lower.proofs.Cells.{sources_length}
-use Rattle.safl_lower.proofs.Building.{sources_kept}
-use Rattle.safl_unit.specs.declared.pins.Outcomes.{Outcomes}
 use Rattle.safl_unit.specs.Stages.{OutcomesFit}
 use Rattle.safl_unit.specs.Edges.{one_below, bit_of, operands_in, ShowsBits, ShowsLoads}
 use Rattle.safl_unit.proofs.equations.Others.{maybe_fits, any_next, below_zero}
@@ -91,7 +78,7 @@ more_load_rows n rows after count place m l ws t h e r f q = record {
 
 pub joined_loads : (a b : Netlist) (rows : List (Vec Load Global)) (all : List (Option Load)) (count : ℕ) (ws : ℕ → List ℕ)
     (says : Val → ℕ → Option (List Word)) → LoadRows a rows count ws says → length all ≡ length rows → SomeFit b all ws
-    → ((i : ℕ) → IsFirstOf b (row_at rows i) (load_in (slice_get all i))) → ShowsLoads b all count ws says
+    → ((i : ℕ) → IsFirstOf b (row_at rows i) (entry_in (slice_get all i))) → ShowsLoads b all count ws says
 joined_loads a b rows all count ws says h e f j = record { entries = e ∙ h.entries; fits = f; shows = λ v w i. (j i).shows v w ∙ h.shows v i }
 
 -- a load of this bit and these words
@@ -145,8 +132,8 @@ more_bit_rows n rows after count place m s t h e r f q = record {
 
 -- the bits of loads in rows, one after another
 pub load_rows_more : (rows : List (Vec Sig Global)) (xs : List (Option Load)) (r : Vec Sig Global) (x : Option Load) → length rows ≡ length xs →
-    ((j : ℕ) → row_at rows j ≡ maybe_one (bit_of (load_in (slice_get xs j)))) → r.items ≡ maybe_one (bit_of x)
-    → (j : ℕ) → row_at (rows ++ r ∷ []) j ≡ maybe_one (bit_of (load_in (slice_get (xs ++ x ∷ []) j)))
+    ((j : ℕ) → row_at rows j ≡ maybe_one (bit_of (entry_in (slice_get xs j)))) → r.items ≡ maybe_one (bit_of x)
+    → (j : ℕ) → row_at (rows ++ r ∷ []) j ≡ maybe_one (bit_of (entry_in (slice_get (xs ++ x ∷ []) j)))
 load_rows_more [] [] r x e h q zero = q
 load_rows_more [] [] r x e h q (suc j) = refl
 load_rows_more [] (y ∷ xs) r x e h q j = absurd (omega (arith, e))
@@ -163,13 +150,13 @@ maybe_alone n None h = tt
 maybe_alone n (Some s) h = (h, tt)
 
 pub start_load_rows : (n : Netlist) (rows : List (Vec Sig Global)) (xs : List (Option Load)) (count : ℕ) (ws : ℕ → List ℕ) (t : Val → ℕ → ℕ → Bool) →
-    length rows ≡ count → SomeFit n xs ws → ((i : ℕ) → row_at rows i ≡ maybe_one (bit_of (load_in (slice_get xs i))))
+    length rows ≡ count → SomeFit n xs ws → ((i : ℕ) → row_at rows i ≡ maybe_one (bit_of (entry_in (slice_get xs i))))
     → BitRows n rows count (λ v i. is_some (taken_from v xs i) || one_below (t v i) 0)
 start_load_rows n rows xs count ws t e h q = record {
   entries = e;
-  fits = λ i. subst (AreBits n) (sym (q i)) (maybe_alone n (bit_of (load_in (slice_get xs i))) (bit_fits n (load_in (slice_get xs i)) (ws i) (h i)));
+  fits = λ i. subst (AreBits n) (sym (q i)) (maybe_alone n (bit_of (entry_in (slice_get xs i))) (bit_fits n (entry_in (slice_get xs i)) (ws i) (h i)));
   shows = λ v i.
-      ap (on_any v) (q i) ∙ maybe_on v (bit_of (load_in (slice_get xs i))) ∙ bit_shows v (load_in (slice_get xs i))
+      ap (on_any v) (q i) ∙ maybe_on v (bit_of (entry_in (slice_get xs i))) ∙ bit_shows v (entry_in (slice_get xs i))
       ∙ or_none (is_some (taken_from v xs i)) ∙ ap (λ (b : Bool). is_some (taken_from v xs i) || b) (sym (below_zero (t v i)));
 }
 
@@ -199,7 +186,7 @@ more_some_rows n rows after count place m bit base t h e r f q = record {
 }
 
 pub joined_bits : (a b : Netlist) (rows : List (Vec Sig Global)) (bits : List (Option Sig)) (count : ℕ) (says : Val → ℕ → Bool) → BitRows a rows count
-    says → length bits ≡ length rows → ((i : ℕ) → IsAnyOf b (row_at rows i) (sig_in (slice_get bits i)))
+    says → length bits ≡ length rows → ((i : ℕ) → IsAnyOf b (row_at rows i) (entry_in (slice_get bits i)))
     → ShowsBits b bits count says
 joined_bits a b rows bits count says h e j = record { entries = e ∙ h.entries; fits = λ i. (j i).fits; shows = λ v w i. (j i).shows v w ∙ h.shows v i }
 
@@ -262,7 +249,7 @@ load_bit_fits n o b ws e h = subst (λ (x : Option Sig). IsBitIn n x) (sym e) (b
 pub load_bit_shows : (v : Val) (o : Option Load) (b : Option Sig) → b ≡ bit_of o → on_in v b ≡ is_some (taken_in v o)
 load_bit_shows v o b e = ap (on_in v) e ∙ bit_shows v o
 
-bit_there : (xs : List (Option Load)) (i : ℕ) → sig_in (slice_get (map bit_of xs) i) ≡ bit_of (load_in (slice_get xs i))
+bit_there : (xs : List (Option Load)) (i : ℕ) → entry_in (slice_get (map bit_of xs) i) ≡ bit_of (entry_in (slice_get xs i))
 bit_there [] i = refl
 bit_there (x ∷ xs) zero = refl
 bit_there (x ∷ xs) (suc i) = bit_there xs i
@@ -275,8 +262,8 @@ pub bits_of_loads : (n : Netlist) (xs : List (Option Load)) (bits : List (Option
     xs ws → bits ≡ map bit_of xs → ShowsBits n bits count (λ v i. is_some (taken_from v xs i))
 bits_of_loads n xs bits count ws e h q = subst (λ (l : List (Option Sig)). ShowsBits n l count (λ v i. is_some (taken_from v xs i))) (sym q) record {
   entries = bits_there xs ∙ e;
-  fits = λ i. subst (λ (o : Option Sig). IsBitIn n o) (sym (bit_there xs i)) (bit_fits n (load_in (slice_get xs i)) (ws i) (h i));
-  shows = λ v w i. ap (on_in v) (bit_there xs i) ∙ bit_shows v (load_in (slice_get xs i));
+  fits = λ i. subst (λ (o : Option Sig). IsBitIn n o) (sym (bit_there xs i)) (bit_fits n (entry_in (slice_get xs i)) (ws i) (h i));
+  shows = λ v w i. ap (on_in v) (bit_there xs i) ∙ bit_shows v (entry_in (slice_get xs i));
 }
 
 pub bits_next : (xs : List (Option Load)) (i : ℕ) (x : Option Load) → slice_get xs i ≡ Some x → map bit_of (take (suc i) xs) ≡ map bit_of (take i xs) ++ bit_of x ∷ []
@@ -286,10 +273,10 @@ bits_next (y ∷ xs) (suc i) x e = ap (λ (l : List (Option Sig)). bit_of y ∷ 
 
 pub loop_fits : (C : Program) (n : Netlist) (o : Outcomes) (h : ℕ) (l : Option Load) (bit : Option Sig) → OutcomesFit C n o → slice_get o.loops.items h ≡ Some l → bit ≡ bit_of l → IsBitIn n bit
 loop_fits C n o h l bit f e q =
-    subst (λ (b : Option Sig). IsBitIn n b) (sym q) (bit_fits n l (C.params h) (subst (λ (x : Option (Option Load)). FitsIn n (load_in x) (C.params h)) e (f.loops h)))
+    subst (λ (b : Option Sig). IsBitIn n b) (sym q) (bit_fits n l (C.params h) (subst (λ (x : Option (Option Load)). FitsIn n (entry_in x) (C.params h)) e (f.loops h)))
 
 pub loop_shown : (v : Val) (o : Outcomes) (h i place to : ℕ) (l : Option Load) (bit : Option Sig) → slice_get o.loops.items h ≡ Some l → bit ≡ bit_of l → place ≡ to
     → ((i == place) && on_in v bit) ≡ ((i == to) && is_some (taken_from v o.loops.items h))
 loop_shown v o h i place to l bit e q p =
     ap (λ (b : Option Sig). (i == place) && on_in v b) q ∙ ap (λ (b : Bool). (i == place) && b) (bit_shows v l)
-    ∙ ap (λ (x : ℕ). (i == x) && is_some (taken_in v l)) p ∙ ap (λ (x : Option (Option Load)). (i == to) && is_some (taken_in v (load_in x))) (sym e)
+    ∙ ap (λ (x : ℕ). (i == x) && is_some (taken_in v l)) p ∙ ap (λ (x : Option (Option Load)). (i == to) && is_some (taken_in v (entry_in x))) (sym e)

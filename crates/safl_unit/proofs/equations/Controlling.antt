@@ -1,27 +1,10 @@
 -- The bits that the named wires copy.
+use Rattle.safl_unit.proofs.Common.{Builds, Choice, Controls, Cycle, HasControls, IsSource, Load, Netlist, Outcomes, Pins, Program, Returns}
+use Rattle.safl_unit.proofs.Common.{Sig, Val, Wired, get_map, get_some, length-map, maybe_load_kept, on, one_some, source_kept}
 use Rattle.std.proofs.Common.{◌≡◌, ℕ, zero, suc, ◌<◌, ◌≤◌, List, length, map, slice_get, Option, Some, None, false, is_some, sym, ap, subst, ◌∙◌, arith}
-use Rattle.std.proofs.lemmas.List.{length-map}
-use Rattle.safl_word.proofs.Lists.{get_map, get_some}
-use Rattle.safl_sites.specs.Plan.{Choice}
-use Rattle.safl_term.specs.Program.{Program}
-use Rattle.safl_net.specs.declared.cell.Sig.{Sig}
-use Rattle.safl_net.specs.Netlist.{Netlist}
-use Rattle.safl_net.specs.Growth.{Val, Wired}
-use Rattle.safl_net.specs.Bits.{on}
 use Rattle.safl_circuit.specs.Equations.{Registers, Inputs, want}
-use Rattle.safl_lower.specs.declared.loads.Load.{Load}
-use Rattle.safl_lower.specs.Sources.{IsSource, Builds}
-use Rattle.safl_lower.specs.Tables.{pin, load_bit, bit_or, load_in, taken_in, FitsIn}
-use Rattle.safl_lower.proofs.Building.{source_kept}
-use Rattle.safl_lower.proofs.KnownLoads.{maybe_load_kept}
-use Rattle.safl_lower.proofs.Goes.{one_some}
-use Rattle.safl_unit.specs.declared.pins.Pins.{Pins}
-use Rattle.safl_unit.specs.declared.pins.Returns.{Returns}
-use Rattle.safl_unit.specs.declared.pins.Outcomes.{Outcomes}
-use Rattle.safl_unit.specs.declared.pins.Controls.{Controls}
-use Rattle.safl_unit.specs.Cycles.{Cycle}
+use Rattle.safl_lower.specs.Tables.{pin, load_bit, bit_or, entry_in, taken_in, FitsIn}
 use Rattle.safl_unit.specs.Stages.{HasReturns, HasOutcomes, HasGoes}
-use Rattle.safl_unit.specs.Finished.{HasControls}
 use Rattle.safl_unit.proofs.equations.Keeping.{cycle_before}
 use Rattle.safl_unit.proofs.equations.Tables.{pin_is}
 use Rattle.safl_unit.proofs.equations.Granting.{gated, want_shown}
@@ -73,7 +56,7 @@ module _ (C : Program) (P : Choice) (a b : Netlist) (p : Pins) (R : Returns) (O 
         (gated (on v at.0.bit) _) ∙ ap (λ (o : Option Load). is_some (taken_in v o)) (sym at.1)
         ∙ ap is_some ((os.shows v r i (cycle_before built c)).ends f l) ∙ one_some _;
     loops = λ v r i c f l. let at = loop_at f l in ap (on v) (pin_map (bit_or never) O.loops.items T.loops.items f at.0 loops at.1) ∙ bit_shown v
-        never at.0 (off v c.wired) ∙ ap (λ (o : Option (Option Load)). is_some (taken_in v (load_in o))) (sym at.1)
+        never at.0 (off v c.wired) ∙ ap (λ (o : Option (Option Load)). is_some (taken_in v (entry_in o))) (sym at.1)
         ∙ ap is_some ((os.shows v r i (cycle_before built c)).loops f l);
     wants = λ v r i c k o l. want_is v r i c k o l;
     rets = λ v r i c k o l. ap (λ (xs : List Sig). on v (pin xs k)) rets ∙ (rs.shows v r i (cycle_before built c)).ret k o l;
@@ -81,7 +64,7 @@ module _ (C : Program) (P : Choice) (a b : Netlist) (p : Pins) (R : Returns) (O 
   }
     where
       fits_kept : (f : ℕ) (o : Option Load) → slice_get O.loops.items f ≡ Some o → FitsIn b o (C.params f)
-      fits_kept f o e = subst (λ (x : Option (Option Load)). FitsIn b (load_in x) (C.params f)) e (maybe_load_kept built (load_in (slice_get O.loops.items f)) (C.params f) (os.fits.loops f))
+      fits_kept f o e = subst (λ (x : Option (Option Load)). FitsIn b (entry_in x) (C.params f)) e (maybe_load_kept built (entry_in (slice_get O.loops.items f)) (C.params f) (os.fits.loops f))
 
       want_is : (v : Val) (r : Registers) (i : Inputs) → Cycle C P b p v r i → (k : ℕ) → 0 < k → k ≤ C.sites → on v (pin T.wants.items k) ≡ want C P r k
       want_is v r i c zero o l = absurd (omega (arith, o))

@@ -1,30 +1,14 @@
 -- The tables of an edge show what the equations say.
+use Rattle.safl_unit.proofs.Common.{Builds, Choice, Load, Netlist, Outcomes, Pins, Program, Sig, Val, Word, both_ways, either_some, eq_flip}
+use Rattle.safl_unit.proofs.Common.{gate, load_kept, on, one_some, or_else, some_if, some_kept, unit_for, words}
 use Rattle.std.proofs.Common.{◌≡◌, ℕ, zero, suc, ◌<◌, List, [], ◌∷◌, Option, Some, None, Bool, true, false, cond, not, ◌&&◌, ◌||◌, ◌==◌, slice_get, is_some, refl, sym, ap, ◌∙◌, arith}
-use Rattle.safl_sites.specs.Plan.{Choice}
 use Rattle.std.proofs.lemmas.Bool.{false≢true, eq-eqb, eqb-true, and_parts, and_from}
-use Rattle.std.specs.Cmp.{both_ways}
-use Rattle.safl_word.specs.Words.{Word}
-use Rattle.safl_word.proofs.Naturals.{eq_flip}
-use Rattle.safl_word.proofs.Options.{some_if}
-use Rattle.safl_term.specs.Program.{Program, unit_for}
-use Rattle.safl_term.specs.Readiness.{or_else}
-use Rattle.safl_term.proofs.OrElse.{either_some}
 use Rattle.safl_calls.specs.Picks.{first}
 use Rattle.safl_calls.proofs.Basics.{first_cong}
-use Rattle.safl_net.specs.declared.cell.Sig.{Sig}
-use Rattle.safl_net.specs.Netlist.{Netlist}
-use Rattle.safl_net.specs.Growth.{Val, words}
-use Rattle.safl_net.specs.Bits.{on, gate}
 use Rattle.safl_circuit.specs.Equations.{Registers, Inputs, body_wants, want, wants_at, go, go_words, end_word, loop_words}
 use Rattle.safl_circuit.specs.Equations.{ends, taken_loop, starts, loads, starts_it}
 use Rattle.safl_circuit.proofs.Searched.{end_in, loop_in, go_in, load_in as loads_from, if_other}
-use Rattle.safl_lower.specs.declared.loads.Load.{Load}
-use Rattle.safl_lower.specs.Sources.{Builds}
 use Rattle.safl_lower.specs.Tables.{pin, taken_in, taken_at, taken_from, on_from, one_word}
-use Rattle.safl_lower.proofs.KnownLoads.{load_kept, some_kept}
-use Rattle.safl_lower.proofs.Goes.{one_some}
-use Rattle.safl_unit.specs.declared.pins.Outcomes.{Outcomes}
-use Rattle.safl_unit.specs.declared.pins.Pins.{Pins}
 use Rattle.safl_unit.specs.Stages.{called, OutcomesFit, HasOutcomes, HasGoes, HasEnds, HasLoads, HasStarts, HasClears, HasEntries, HasRivals}
 use Rattle.safl_unit.specs.Edges.{one_below, operands_in, rival, ShowsBits, ShowsLoads, ShowsBelow}
 use Rattle.safl_unit.proofs.equations.Chains.{gates_both}

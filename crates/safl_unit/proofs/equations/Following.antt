@@ -1,17 +1,8 @@
 -- The next words of the registers are those of the equations.
+use Rattle.safl_unit.proofs.Common.{Choice, MemberPins, SitePins, UnitPins, Val, Word, one_some, one_word, or_else, unwrap_or, words}
 use Rattle.std.proofs.Common.{◌≡◌, ℕ, List, [], ◌∷◌, Option, Some, None, Bool, true, false, cond, not, ◌&&◌, ◌||◌, is_some, refl, ap, ◌∙◌}
-use Rattle.std.specs.Prelude.{unwrap_or}
-use Rattle.safl_sites.specs.Plan.{Choice}
-use Rattle.safl_word.specs.Words.{Word}
 use Rattle.safl_term.specs.Program.{Program, unit_for}
-use Rattle.safl_term.specs.Readiness.{or_else}
-use Rattle.safl_net.specs.Growth.{Val, words}
 use Rattle.safl_circuit.specs.Equations.{Registers, Inputs, many, ret, go, ends, starts, loads, loop_words, clears, starts_it, starts_other, next}
-use Rattle.safl_lower.specs.Tables.{one_word}
-use Rattle.safl_lower.proofs.Goes.{one_some}
-use Rattle.safl_unit.specs.declared.pins.UnitPins.{UnitPins}
-use Rattle.safl_unit.specs.declared.pins.MemberPins.{MemberPins}
-use Rattle.safl_unit.specs.declared.pins.SitePins.{SitePins}
 use Rattle.safl_unit.specs.Cycles.{UnitShows, MemberShows, SiteShows}
 use Rattle.safl_unit.specs.Steps.{UnitStep, MemberStep, SiteStep}
 

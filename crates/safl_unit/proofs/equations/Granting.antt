@@ -1,25 +1,10 @@
 -- Which sites start, one by one.
+use Rattle.safl_unit.proofs.Common.{Builds, Choice, EachAt, HasGoes, InEachCycle, IsSource, Load, Netlist, Pins, Program, Sig, Val, Wired}
+use Rattle.safl_unit.proofs.Common.{called, either_some, gate, on, pin, some_if, source_kept, taken_at, taken_in, unit_for, wired_before}
 use Rattle.std.proofs.Common.{◌≡◌, ℕ, zero, suc, ◌≤◌, List, [], ◌∷◌, ◌++◌, length, slice_get, subst, Option, Some, Bool, true, false, ◌&&◌}
-use Rattle.safl_sites.specs.Plan.{Choice}
 use Rattle.std.proofs.Common.{◌||◌, ◌==◌, not, cond, is_some, Result, Ok, Err, IfOk, refl, sym, ap, ◌∙◌, arith}
-use Rattle.safl_word.proofs.Options.{some_if}
-use Rattle.safl_term.specs.Program.{Program, unit_for}
-use Rattle.safl_term.proofs.OrElse.{either_some}
 use Rattle.safl_calls.specs.Picks.{first}
-use Rattle.safl_net.specs.declared.cell.Sig.{Sig}
-use Rattle.safl_net.specs.Netlist.{Netlist}
-use Rattle.safl_net.specs.Growth.{Val, Wired}
-use Rattle.safl_net.proofs.Growth.{wired_before}
-use Rattle.safl_net.specs.Bits.{on}
-use Rattle.safl_net.specs.Bits.{gate}
 use Rattle.safl_circuit.specs.Equations.{Registers, Inputs, want, wants_at, go}
-use Rattle.safl_lower.specs.declared.loads.Load.{Load}
-use Rattle.safl_lower.specs.Sources.{IsSource, Builds}
-use Rattle.safl_lower.specs.Tables.{EachAt, taken_at, taken_in, pin}
-use Rattle.safl_lower.proofs.Building.{source_kept}
-use Rattle.safl_unit.specs.declared.pins.Pins.{Pins}
-use Rattle.safl_unit.specs.Cycles.{InEachCycle}
-use Rattle.safl_unit.specs.Stages.{called, HasGoes}
 use Rattle.safl_unit.proofs.equations.Keeping.{cycle_before}
 use Rattle.safl_unit.proofs.equations.Sites.{one_more, longer}
 use Rattle.safl_unit.proofs.equations.Tables.{pin_get}

@@ -1,11 +1,8 @@
 -- Members of a group.
+use Rattle.safl_unit.proofs.Common.{CheckedProgram, IsChecked, Program, eq-eqb, eqb-true, many, ne_eqb}
 use Rattle.std.proofs.Common.{◌≡◌, ℕ, ◌+◌, ◌<◌, ◌≤◌, Option, Some, None, Bool, true, false, cond, not, ◌&&◌, ◌==◌, is_some, refl, sym, ap, ◌∙◌, arith}
-use Rattle.std.proofs.lemmas.Bool.{ne_eqb, eq-eqb, eqb-true}
-use Rattle.safl_term.specs.Program.{Program}
-use Rattle.safl_term.specs.Checked.{CheckedProgram, IsChecked}
 use Rattle.safl_calls.specs.Picks.{first}
 use Rattle.safl_calls.proofs.Basics.{first_none, all_none, some_none}
-use Rattle.safl_circuit.specs.Equations.{many}
 use Rattle.safl_circuit.proofs.Searched.{other_than}
 
 pub found : {A : Type 0} (g : ℕ → Option A) (n i : ℕ) (x : A) → i < n → g i ≡ Some x → is_some (first g n) ≡ true

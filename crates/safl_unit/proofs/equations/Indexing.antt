@@ -1,10 +1,6 @@
 -- Entries of tables by function and by site.
+use Rattle.safl_unit.proofs.Common.{CheckedProgram, IsChecked, UnitPins, main_is_last, slice_get_read, unit_for}
 use Rattle.std.proofs.Common.{◌≡◌, ℕ, suc, ◌+◌, ◌-◌, ◌<◌, List, length, Some, slice_get, slice_index_or, refl, sym, ap, ◌∙◌, add-one, arith}
-use Rattle.std.proofs.lemmas.Option.{slice_get_read}
-use Rattle.safl_term.specs.Checked.{CheckedProgram, IsChecked}
-use Rattle.safl_term.proofs.HeldByChecked.{main_is_last}
-use Rattle.safl_term.specs.Program.{unit_for}
-use Rattle.safl_unit.specs.declared.pins.UnitPins.{UnitPins}
 
 -- the registers of the next site's unit, and its own
 pub unit_at : (a b : CheckedProgram) (us : List UnitPins) (m r : ℕ) (u : UnitPins) → IsChecked b → b ≡ a → m < b.program.sites → r ≡

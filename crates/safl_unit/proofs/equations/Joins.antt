@@ -1,20 +1,12 @@
 -- The loads of a body among those of the bodies before it.
+use Rattle.safl_unit.proofs.Common.{EachAt, FitsIn, Load, Netlist, Program, PushesLoads, SomeFit, Val, cases_lt, entry_in, eq-eqb}
+use Rattle.safl_unit.proofs.Common.{eqb-false, eqb-true, get_end, maybe_load, ne_eqb, nil_at_end, or_else, or_else_none, or_is, taken_in}
 use Rattle.std.proofs.Common.{◌≡◌, ℕ, zero, suc, ◌+◌, ◌-◌, ◌<◌, ◌≤◌, List, [], ◌∷◌, ◌++◌, length, length-append, cond, Vec, Global, Option, Some}
 use Rattle.std.proofs.Common.{None, Bool, true, false, ◌==◌, ◌⊎◌, inl, inr, add-one, slice_get, refl, sym, ap, subst, ◌∙◌, arith}
-use Rattle.std.proofs.lemmas.Bool.{eq-eqb, ne_eqb, eqb-true, eqb-false, cases_lt}
-use Rattle.safl_word.proofs.Lists.{get_end, nil_at_end}
-use Rattle.safl_term.specs.Program.{Program}
 use Rattle.safl_term.specs.Sizes.{nodes, body_nodes}
-use Rattle.safl_term.specs.Readiness.{or_else}
-use Rattle.safl_term.proofs.OrElse.{or_else_none, or_is}
-use Rattle.safl_net.specs.Netlist.{Netlist}
-use Rattle.safl_net.specs.Growth.{Val}
-use Rattle.safl_lower.specs.declared.loads.Load.{Load}
-use Rattle.safl_lower.specs.Tables.{EachAt, taken_in, load_in, FitsIn, SomeFit}
 use Rattle.safl_lower.specs.Rows.{AllFit, first_taken, row_at, RowsFit}
 use Rattle.safl_lower.proofs.JoinedRows.{fit_push, first_pushed}
 use Rattle.safl_lower.specs.Loads.{load_cost, loads_cost}
-use Rattle.safl_unit.specs.Outcomes.{PushesLoads, maybe_load}
 
 -- ---- counts
 
@@ -52,20 +44,20 @@ module _ (first : ℕ) (own : List (Option Load)) (old mid new : List (Vec Load 
   apart : (k : ℕ) → (k ≡ first + length own → ⊥) → row_at new k ≡ row_at mid k
   apart k d = step k ∙ ap (λ (b : Bool). row_at mid k ++ cond b (maybe_load o) []) (ne_eqb k (first + length own) d) ∙ sym (nil_at_end (row_at mid k))
 
-  here : row_at new (first + length own) ≡ row_at old (first + length own) ++ maybe_load (load_in (slice_get (own ++ o ∷ []) (length own)))
+  here : row_at new (first + length own) ≡ row_at old (first + length own) ++ maybe_load (entry_in (slice_get (own ++ o ∷ []) (length own)))
   here =
       step (first + length own) ∙ ap (λ (b : Bool). row_at mid (first + length own) ++ cond b (maybe_load o) []) (eq-eqb (first + length own) (first + length own) refl)
       ∙ ap (λ (l : List Load). l ++ maybe_load o) (h.others (first + length own) (inr (omega arith)))
-      ∙ ap (λ (x : Option (Option Load)). row_at old (first + length own) ++ maybe_load (load_in x)) (sym (get_end own o))
+      ∙ ap (λ (x : Option (Option Load)). row_at old (first + length own) ++ maybe_load (entry_in x)) (sym (get_end own o))
 
-  pushed_at : (j : ℕ) → j < length own + 1 → (b : Bool) → (j == length own) ≡ b → row_at new (first + j) ≡ row_at old (first + j) ++ maybe_load (load_in (slice_get (own ++ o ∷ []) j))
+  pushed_at : (j : ℕ) → j < length own + 1 → (b : Bool) → (j == length own) ≡ b → row_at new (first + j) ≡ row_at old (first + j) ++ maybe_load (entry_in (slice_get (own ++ o ∷ []) j))
   pushed_at j k true e =
       let s : length own ≡ j = sym (eqb-true j (length own) e) in
-      subst (λ (x : ℕ). row_at new (first + x) ≡ row_at old (first + x) ++ maybe_load (load_in (slice_get (own ++ o ∷ []) x))) s here
+      subst (λ (x : ℕ). row_at new (first + x) ≡ row_at old (first + x) ++ maybe_load (entry_in (slice_get (own ++ o ∷ []) x))) s here
   pushed_at j k false e =
       let d = eqb-false j (length own) e in
       let l : j < length own = omega (arith, k, d) in
-      apart (first + j) (λ s. d (omega (arith, s))) ∙ h.pushed j l ∙ ap (λ (x : Option (Option Load)). row_at old (first + j) ++ maybe_load (load_in x)) (sym (front_at own o j l))
+      apart (first + j) (λ s. d (omega (arith, s))) ∙ h.pushed j l ∙ ap (λ (x : Option (Option Load)). row_at old (first + j) ++ maybe_load (entry_in x)) (sym (front_at own o j l))
 
   one_pushed : PushesLoads first (length own + 1) (own ++ o ∷ []) old new
   one_pushed = record {
@@ -97,7 +89,7 @@ module _ (n : Netlist) (first : ℕ) (own : List (Option Load)) (old new : List 
       let m : i - first < length own = omega (arith, x, y) in
       subst (λ (k : ℕ). AllFit n (row_at new k) (ws k)) j
       (subst (λ (l : List Load). AllFit n l (ws (first + (i - first)))) (sym (joined.pushed (i - first) m))
-      (fit_maybe n (row_at old (first + (i - first))) (load_in (slice_get own (i - first))) (ws (first + (i - first))) (before (first + (i - first))) (fit (i - first))))
+      (fit_maybe n (row_at old (first + (i - first))) (entry_in (slice_get own (i - first))) (ws (first + (i - first))) (before (first + (i - first))) (fit (i - first))))
 
   pub rows_more : RowsFit n new ws
   rows_more i = fit_at i (cases_lt i first) (cases_lt i (first + length own))

@@ -1,25 +1,8 @@
 -- What is known of a net is known of what is built on it.
-use Rattle.std.proofs.Common.{ℕ, List, Option, Bool, slice_get}
-use Rattle.safl_sites.specs.Plan.{Choice}
-use Rattle.safl_term.specs.Program.{Program}
-use Rattle.safl_net.specs.declared.cell.Sig.{Sig}
-use Rattle.safl_net.specs.Netlist.{Netlist}
-use Rattle.safl_net.specs.Growth.{Val}
-use Rattle.safl_net.proofs.Growth.{wired_before}
-use Rattle.safl_lower.specs.declared.lowered.SitePorts.{SitePorts}
+use Rattle.safl_unit.proofs.Common.{Bank, Bool, Builds, Choice, List, Load, MemberPins, Netlist, Option, Outcomes, Pins, Program, Returns}
+use Rattle.safl_unit.proofs.Common.{Sig, SitePins, SitePorts, UnitPins, Val, bits_kept, entry_in, load_kept, maybe_load_kept, slice_get}
+use Rattle.safl_unit.proofs.Common.{some_kept, source_kept, sources_kept, wired_before, ℕ}
 use Rattle.safl_circuit.specs.Equations.{Registers, Inputs}
-use Rattle.safl_lower.specs.declared.loads.Load.{Load}
-use Rattle.safl_lower.specs.Sources.{Builds}
-use Rattle.safl_lower.specs.Tables.{load_in}
-use Rattle.safl_lower.proofs.Building.{source_kept, sources_kept}
-use Rattle.safl_lower.proofs.KnownLoads.{load_kept, maybe_load_kept, some_kept, bits_kept}
-use Rattle.safl_unit.specs.declared.pins.UnitPins.{UnitPins}
-use Rattle.safl_unit.specs.declared.pins.MemberPins.{MemberPins}
-use Rattle.safl_unit.specs.declared.pins.SitePins.{SitePins}
-use Rattle.safl_unit.specs.declared.pins.Bank.{Bank}
-use Rattle.safl_unit.specs.declared.pins.Pins.{Pins}
-use Rattle.safl_unit.specs.declared.pins.Returns.{Returns}
-use Rattle.safl_unit.specs.declared.pins.Outcomes.{Outcomes}
 use Rattle.safl_unit.specs.Cycles.{UnitFits, MemberFits, SiteFits, BankFits, PinsFit, Cycle}
 use Rattle.safl_unit.specs.Stages.{PortFits, GoesFit, HasReturns, HasOutcomes, HasGoes, HasEnds, HasLoads, HasBits, HasNext}
 
@@ -89,7 +72,7 @@ module _ {a b : Netlist} {most : ℕ} (h : Builds a b most) where
   goes_kept q = record { count = q.count; fits = λ k l. source_kept h (q.fits k l); shows = λ v r i c. q.shows v r i (cycle_before c) }
 
   pub ends_kept : {C : Program} {P : Choice} {p : Pins} {all : List (Option Load)} → HasEnds C P a p all → HasEnds C P b p all
-  ends_kept {C} {P} {p} {all} q = record { count = q.count; fits = λ u. maybe_load_kept h (load_in (slice_get all u)) _ (q.fits u); shows = λ v r i c. q.shows v r i (cycle_before c) }
+  ends_kept {C} {P} {p} {all} q = record { count = q.count; fits = λ u. maybe_load_kept h (entry_in (slice_get all u)) _ (q.fits u); shows = λ v r i c. q.shows v r i (cycle_before c) }
 
   pub all_loads_kept : {C : Program} {P : Choice} {p : Pins} {all : List (Option Load)} → HasLoads C P a p all → HasLoads C P b p all
   all_loads_kept {C} {P} {p} {all} q = record { count = q.count; fits = some_kept h all C.params q.fits; shows = λ v r i c. q.shows v r i (cycle_before c) }

@@ -1,12 +1,9 @@
 -- The circuit of a body shows what the equations say.
+use Rattle.safl_unit.proofs.Common.{AreSources, Body, Builds, CheckedProgram, Choice, HasRoom, InEachCycle, IsChecked, IsSource, MemberPins}
+use Rattle.safl_unit.proofs.Common.{Netlist, Pins, PinsFit, Ports, Program, Returns, Val, Wired, Word, builds_on, builds_within, cases_lt}
+use Rattle.safl_unit.proofs.Common.{eq-eqb, gate, le-leb, on, one_word, slice_get_within, sources_kept, words}
 use Rattle.std.proofs.Common.{◌≡◌, ℕ, zero, suc, ◌+◌, ◌-◌, ◌*◌, ◌<◌, ◌≤◌, List, Option, Some, None, Result, Ok, Err, IfOk, OnOk, Bool, true, false}
-use Rattle.safl_sites.specs.Plan.{Choice}
 use Rattle.std.proofs.Common.{not, cond, ◌&&◌, nat_le, ⊎_elim, slice_get, refl, sym, ap, subst, ◌∙◌, arith}
-use Rattle.std.proofs.lemmas.Bool.{eq-eqb, le-leb, cases_lt}
-use Rattle.std.proofs.lemmas.Option.{slice_get_within}
-use Rattle.safl_word.specs.Words.{Word}
-use Rattle.safl_term.specs.Program.{Program}
-use Rattle.safl_term.specs.Checked.{CheckedProgram, IsChecked}
 use Rattle.safl_term.specs.Terms.{Term, Const, Var, Op, If, Let, Call, Loop, Terms, Nil, Cons}
 use Rattle.safl_term.specs.WellFormed.{Spans, SpansAll}
 use Rattle.safl_term.specs.Standing.{Stands}
@@ -14,23 +11,11 @@ use Rattle.safl_term.specs.Readiness.{Answer, Ready, LoopTo, NotYet, word_of, an
 use Rattle.safl_term.proofs.HeldByChecked.{first_site_rises, first_site_past}
 use Rattle.safl_term.proofs.Order.{stands_within}
 use Rattle.safl_calls.proofs.Locality.{answer_local, wanted_local}
-use Rattle.safl_net.specs.Netlist.{Netlist}
-use Rattle.safl_net.specs.Growth.{Val, words, Wired}
-use Rattle.safl_lower.specs.declared.lowered.Ports.{Ports}
-use Rattle.safl_lower.specs.declared.lowered.Body.{Body}
-use Rattle.safl_net.specs.Bits.{on, gate}
 use Rattle.safl_lower.specs.Loads.{to_member}
 use Rattle.safl_term.specs.Sizes.{nodes}
 use Rattle.safl_lower.specs.Lowering.{returned_word, was_sent, goes_of}
 use Rattle.safl_lower.specs.Bodies.{CanLower, IsLowered, back_at, sent_at, answer_at, wanted_at}
 use Rattle.safl_circuit.specs.Equations.{Registers, on_wires, path, body_says, body_wants, end_word, goes_to}
-use Rattle.safl_lower.specs.Sources.{IsSource, AreSources, Builds, HasRoom}
-use Rattle.safl_lower.specs.Tables.{one_word}
-use Rattle.safl_lower.proofs.Building.{builds_on, builds_within, sources_kept}
-use Rattle.safl_unit.specs.declared.pins.Returns.{Returns}
-use Rattle.safl_unit.specs.declared.pins.MemberPins.{MemberPins}
-use Rattle.safl_unit.specs.declared.pins.Pins.{Pins}
-use Rattle.safl_unit.specs.Cycles.{PinsFit, InEachCycle}
 use Rattle.safl_unit.specs.Stages.{ReturnsFit, ReturnsShow, HasReturns}
 use Rattle.safl_unit.specs.Outcomes.{AreOwnPorts, BodyShows, HasBody}
 use Rattle.safl_unit.proofs.equations.Keeping.{returns_kept, cycle_before}

@@ -1,24 +1,12 @@
 -- Other members of a unit, by the bits of all of its members.
+use Rattle.safl_unit.proofs.Common.{AreBits, Builds, Netlist, Program, Sig, Val, Wired, and-false, bits_kept, both_ways, eq_flip, get_end}
+use Rattle.safl_unit.proofs.Common.{get_in_front, many, maybe_one, nil_at_end, on, on_any, on_two, or-false, wired_before}
 use Rattle.std.proofs.Common.{◌≡◌, ℕ, zero, suc, ◌+◌, ◌<◌, ◌≤◌, List, [], ◌∷◌, ◌++◌, length, Option, Some, None, slice_get, Bool, true, false, cond}
 use Rattle.std.proofs.Common.{not, ltb, ◌&&◌, ◌||◌, ◌==◌, ◌⊎◌, inl, inr, ⊎_elim, refl, sym, ap, subst, ◌∙◌, add-one, arith}
 use Rattle.std.proofs.lemmas.List.{length_push}
 use Rattle.std.proofs.lemmas.Bool.{cases_eq, cases_lt, false≢true, ne_eqb, eqb-true, eqb-false, lt-ltb, le-ltb, or_left, or_right, and_parts, not-true}
-use Rattle.std.specs.Cmp.{both_ways}
-use Rattle.std.proofs.Math.Bool.{and-false, or-false}
-use Rattle.safl_word.proofs.Lists.{get_end, get_in_front, nil_at_end}
-use Rattle.safl_word.proofs.Naturals.{eq_flip}
-use Rattle.safl_term.specs.Program.{Program}
-use Rattle.safl_net.specs.declared.cell.Sig.{Sig}
-use Rattle.safl_net.specs.Netlist.{Netlist}
-use Rattle.safl_net.specs.Growth.{Val, Wired}
-use Rattle.safl_net.proofs.Growth.{wired_before}
-use Rattle.safl_net.specs.Bits.{on}
-use Rattle.safl_circuit.specs.Equations.{many}
-use Rattle.safl_lower.specs.Sources.{Builds}
-use Rattle.safl_lower.specs.Tables.{sig_in, on_in, on_from, IsBitIn, BitsFit}
-use Rattle.safl_lower.specs.Rows.{maybe_one, AreBits, on_any, on_two}
+use Rattle.safl_lower.specs.Tables.{entry_in, on_in, on_from, IsBitIn, BitsFit}
 use Rattle.safl_lower.proofs.BitWords.{same}
-use Rattle.safl_lower.proofs.KnownLoads.{bits_kept}
 use Rattle.safl_lower.proofs.JoinedRows.{any_append, two_append, bits_push}
 use Rattle.safl_unit.specs.Edges.{one_below, entry_row, others_on, rival, ShowsBelow}
 use Rattle.safl_unit.proofs.equations.Groups.{many_true}
@@ -45,11 +33,11 @@ pub entry_zero : (C : Program) (es : List (Option Sig)) (u : ℕ) → entry_row 
 unfolding entry_row
 entry_zero C es u = refl
 
-entry_suc : (C : Program) (es : List (Option Sig)) (u m : ℕ) → entry_row C es u (suc m) ≡ entry_row C es u m ++ cond (u == C.unit m) (maybe_one (sig_in (slice_get es m))) []
+entry_suc : (C : Program) (es : List (Option Sig)) (u m : ℕ) → entry_row C es u (suc m) ≡ entry_row C es u m ++ cond (u == C.unit m) (maybe_one (entry_in (slice_get es m))) []
 unfolding entry_row
 entry_suc C es u m = refl
 
-pub entry_next : (C : Program) (es : List (Option Sig)) (u m : ℕ) → entry_row C es u (m + 1) ≡ entry_row C es u m ++ cond (u == C.unit m) (maybe_one (sig_in (slice_get es m))) []
+pub entry_next : (C : Program) (es : List (Option Sig)) (u m : ℕ) → entry_row C es u (m + 1) ≡ entry_row C es u m ++ cond (u == C.unit m) (maybe_one (entry_in (slice_get es m))) []
 entry_next C es u m = ap (entry_row C es u) (add-one m) ∙ entry_suc C es u m
 
 pub maybe_fits : (n : Netlist) (xs : List Sig) (t : Bool) (o : Option Sig) → AreBits n xs → IsBitIn n o → AreBits n (xs ++ cond t (maybe_one o) [])
@@ -59,7 +47,7 @@ maybe_fits n xs false o h q = subst (AreBits n) (nil_at_end xs) h
 
 pub entries_fit : (C : Program) (n : Netlist) (es : List (Option Sig)) (u : ℕ) → BitsFit n es → (m : ℕ) → AreBits n (entry_row C es u m)
 entries_fit C n es u h zero = subst (AreBits n) (sym (entry_zero C es u)) tt
-entries_fit C n es u h (suc m) = subst (AreBits n) (sym (entry_suc C es u m)) (maybe_fits n (entry_row C es u m) (u == C.unit m) (sig_in (slice_get es m)) (entries_fit C n es u h m) (h m))
+entries_fit C n es u h (suc m) = subst (AreBits n) (sym (entry_suc C es u m)) (maybe_fits n (entry_row C es u m) (u == C.unit m) (entry_in (slice_get es m)) (entries_fit C n es u h m) (h m))
 
 one_on : (v : Val) (t : Bool) (o : Option Sig) → on_any v (cond t (maybe_one o) []) ≡ (t && on_in v o)
 one_on v true None = refl
@@ -165,8 +153,8 @@ module _ (C : Program) (v : Val) (es : List (Option Sig)) (f : ℕ) where
           let bit : ((C.unit f == C.unit m) && on_from v es m) ≡ x = ap (λ (k : ℕ). (C.unit f == C.unit k) && on_from v es k) q ∙ ap (λ (b : Bool). b && x) (same (C.unit f)) in
           let before = moved r t a (ltb f m && x) r t a false refl refl refl (sym (ap (λ (b : Bool). b && x) (le-ltb f m (omega (arith, q))))) h in
           moved (r || false) (t || (a && x)) (a || x) x _ _ _ _ (below_suc (rival C (on_from v es) f) m ∙ ap (λ (b : Bool). r || b) (rival_self m q))
-          (two_next v xs (entry_row C es (C.unit f) (suc m)) (C.unit f == C.unit m) (sig_in (slice_get es m)) (entry_suc C es (C.unit f) m) ∙ ap (λ (b : Bool). t || (a && b)) bit)
-          (any_next v xs (entry_row C es (C.unit f) (suc m)) (C.unit f == C.unit m) (sig_in (slice_get es m)) (entry_suc C es (C.unit f) m) ∙ ap (λ (b : Bool). a || b) bit)
+          (two_next v xs (entry_row C es (C.unit f) (suc m)) (C.unit f == C.unit m) (entry_in (slice_get es m)) (entry_suc C es (C.unit f) m) ∙ ap (λ (b : Bool). t || (a && b)) bit)
+          (any_next v xs (entry_row C es (C.unit f) (suc m)) (C.unit f == C.unit m) (entry_in (slice_get es m)) (entry_suc C es (C.unit f) m) ∙ ap (λ (b : Bool). a || b) bit)
           (ap (λ (b : Bool). b && x) (lt-ltb f (suc m) (omega (arith, q)))) (known_self r t a x before)
       by h (inr q) =
           let r = one_below (rival C (on_from v es) f) m in
@@ -176,8 +164,8 @@ module _ (C : Program) (v : Val) (es : List (Option Sig)) (f : ℕ) where
           let x = ltb f m && on_from v es f in
           let b = (C.unit f == C.unit m) && on_from v es m in
           moved (r || b) (t || (a && b)) (a || b) x _ _ _ _ (below_suc (rival C (on_from v es) f) m ∙ ap (λ (k : Bool). r || k) (rival_other m q))
-          (two_next v xs (entry_row C es (C.unit f) (suc m)) (C.unit f == C.unit m) (sig_in (slice_get es m)) (entry_suc C es (C.unit f) m))
-          (any_next v xs (entry_row C es (C.unit f) (suc m)) (C.unit f == C.unit m) (sig_in (slice_get es m)) (entry_suc C es (C.unit f) m))
+          (two_next v xs (entry_row C es (C.unit f) (suc m)) (C.unit f == C.unit m) (entry_in (slice_get es m)) (entry_suc C es (C.unit f) m))
+          (any_next v xs (entry_row C es (C.unit f) (suc m)) (C.unit f == C.unit m) (entry_in (slice_get es m)) (entry_suc C es (C.unit f) m))
           (ap (λ (k : Bool). k && on_from v es f) (later_same f m q)) (known_other r t a x b h)
 
   -- a unit with one member has no other
@@ -195,7 +183,7 @@ module _ (C : Program) (v : Val) (es : List (Option Sig)) (f : ℕ) where
       (t && others_on v (entry_row C es (C.unit f) C.functions) own) ≡ one_below (rival C (on_from v es) f) C.functions
   rivals_are true own l e at =
       let k = others_known C.functions in
-      ap (λ (o : Option (Option Sig)). on_two v (entry_row C es (C.unit f) C.functions) || (on_any v (entry_row C es (C.unit f) C.functions) && not (on_in v (sig_in o)))) (sym at)
+      ap (λ (o : Option (Option Sig)). on_two v (entry_row C es (C.unit f) C.functions) || (on_any v (entry_row C es (C.unit f) C.functions) && not (on_in v (entry_in o)))) (sym at)
       ∙ ap (λ (b : Bool). on_two v (entry_row C es (C.unit f) C.functions) || (on_any v (entry_row C es (C.unit f) C.functions) && not (b && on_from v es f))) (sym (lt-ltb f C.functions l)) ∙ sym k.is
   rivals_are false own l e at = sym (alone_rival (sym e))
 
@@ -226,7 +214,7 @@ below_one_more a b k m xs after o says g h e q r = subst (λ (l : List (Option S
     by : (v : Val) → Wired b v → (i : ℕ) → i < m + 1 → (i ≡ m) ⊎ (i ≡ m → ⊥) → on_from v (xs ++ o ∷ []) i ≡ says v i
     by v w i l (inl z) =
         let there : slice_get (xs ++ o ∷ []) i ≡ Some o = ap (slice_get (xs ++ o ∷ [])) (z ∙ sym h.entries) ∙ get_end xs o in
-        ap (λ (x : Option (Option Sig)). on_in v (sig_in x)) there ∙ r v w ∙ ap (says v) (sym z)
+        ap (λ (x : Option (Option Sig)). on_in v (entry_in x)) there ∙ r v w ∙ ap (says v) (sym z)
     by v w i l (inr z) =
         let c = h.entries in
-        ap (λ (x : Option (Option Sig)). on_in v (sig_in x)) (get_in_front xs (o ∷ []) i (omega (arith, l, z, c))) ∙ h.shows v (wired_before g.grows w) i (omega (arith, l, z))
+        ap (λ (x : Option (Option Sig)). on_in v (entry_in x)) (get_in_front xs (o ∷ []) i (omega (arith, l, z, c))) ∙ h.shows v (wired_before g.grows w) i (omega (arith, l, z))

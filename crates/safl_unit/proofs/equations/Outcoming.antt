@@ -1,34 +1,17 @@
 -- The outcomes of the bodies below one, and one more body.
+use Rattle.safl_unit.proofs.Common.{AreSources, Body, Builds, CheckedProgram, Choice, Cycle, Gathered, InEachCycle, IsChecked, IsFirstOf}
+use Rattle.safl_unit.proofs.Common.{IsSource, Load, Netlist, Outcomes, Pins, PinsFit, Sig, Val, Word, cases_lt, gate, loads_cost, ne_eqb}
+use Rattle.safl_unit.proofs.Common.{on, or_else, or_else_none, slice_get_within, words}
 use Rattle.std.proofs.Common.{◌≡◌, ℕ, zero, suc, ◌+◌, ◌-◌, ◌<◌, ◌≤◌, List, [], ◌∷◌, ◌++◌, length, length-append, Vec, Global, Option, Some, None}
 use Rattle.safl_term.specs.Sizes.{body_nodes}
-use Rattle.safl_sites.specs.Plan.{Choice}
 use Rattle.std.proofs.Common.{cond, ◌⊎◌, inl, inr, add-one, slice_get, refl, sym, ap, subst, ◌∙◌, arith}
-use Rattle.std.proofs.lemmas.Bool.{ne_eqb, cases_lt}
-use Rattle.std.proofs.lemmas.Option.{slice_get_within}
-use Rattle.safl_word.specs.Words.{Word}
-use Rattle.safl_term.specs.Checked.{CheckedProgram, IsChecked}
-use Rattle.safl_term.specs.Readiness.{or_else}
 use Rattle.safl_term.proofs.HeldByChecked.{first_site_past}
-use Rattle.safl_term.proofs.OrElse.{or_else_none}
 use Rattle.safl_calls.specs.Picks.{first}
-use Rattle.safl_net.specs.declared.cell.Sig.{Sig}
-use Rattle.safl_net.specs.Netlist.{Netlist}
-use Rattle.safl_net.specs.Growth.{Val, words}
-use Rattle.safl_lower.specs.declared.lowered.Body.{Body}
-use Rattle.safl_net.specs.Bits.{on, gate}
 use Rattle.safl_circuit.specs.Equations.{Registers, Inputs, end_word, body_wants, body_says, goes_to, loop_from}
-use Rattle.safl_lower.specs.declared.loads.Load.{Load}
-use Rattle.safl_lower.specs.Sources.{IsSource, AreSources, Builds}
-use Rattle.safl_lower.specs.Tables.{EachAt, taken, taken_in, taken_at, load_in, one_word, LoadFits, LoadsFit, SomeFit}
+use Rattle.safl_lower.specs.Tables.{EachAt, taken, taken_in, taken_at, entry_in, one_word, LoadFits, LoadsFit, SomeFit}
 use Rattle.safl_lower.specs.Rows.{AllFit, first_taken, row_at, first_at, load_joins, total, RowsFit}
-use Rattle.safl_lower.specs.Joints.{IsFirstOf}
 use Rattle.safl_lower.proofs.KnownLoads.{loads_kept}
 use Rattle.safl_lower.proofs.JoinedRows.{fit_kept, total_bare}
-use Rattle.safl_lower.specs.Loads.{loads_cost}
-use Rattle.safl_unit.specs.declared.pins.Pins.{Pins}
-use Rattle.safl_unit.specs.declared.pins.Outcomes.{Outcomes}
-use Rattle.safl_unit.specs.Cycles.{PinsFit, Cycle, InEachCycle}
-use Rattle.safl_unit.specs.declared.bodies.Gathered.{Gathered}
 use Rattle.safl_unit.specs.Stages.{called, HasOutcomes}
 use Rattle.safl_unit.specs.Outcomes.{BodyShows, HasBody, PushesLoads}
 use Rattle.safl_unit.proofs.equations.Keeping.{cycle_before}
@@ -102,7 +85,7 @@ loops_more c P n p f b v r old new body shown joined h l e = at (cases_lt h (c.p
         (loop_from c.program P r (c.program.unit f + i) f)
     inside i m =
         ap (first_taken v) (joined.pushed i m)
-        ∙ taken_maybe v (row_at old (c.program.unit f + i)) (load_in (slice_get b.loops.items i))
+        ∙ taken_maybe v (row_at old (c.program.unit f + i)) (entry_in (slice_get b.loops.items i))
         ∙ ap (or_else (first_at v old (c.program.unit f + i))) (shown.loops i m)
 
     at : (h < c.program.unit f) ⊎ (c.program.unit f ≤ h) → (h < c.program.unit f + length b.loops.items) ⊎ (c.program.unit f + length b.loops.items ≤ h)
@@ -187,7 +170,7 @@ each_taken v (x ∷ xs) g h (suc i) l = each_taken v xs (λ j. g (suc j)) (λ j 
 
 pub all_outcomes : (c : CheckedProgram) (P : Choice) (n m : Netlist) (k : ℕ) (p : Pins) (f : ℕ) (o : Gathered) (q : Outcomes) → f ≡ c.program.functions → OutcomesUpTo c P n p f o → Builds n m k
     → q.ends ≡ o.ends → q.wants ≡ o.wants → length q.loops.items ≡ length o.rows.items → SomeFit m q.loops.items c.program.params
-    → ((i : ℕ) → IsFirstOf m (row_at o.rows.items i) (load_in (slice_get q.loops.items i))) → HasOutcomes c.program P m p q
+    → ((i : ℕ) → IsFirstOf m (row_at o.rows.items i) (entry_in (slice_get q.loops.items i))) → HasOutcomes c.program P m p q
 all_outcomes c P n m k p f o q e h built x y count fits joined =
     let own = ap (λ (xs : Vec Load Global). xs.items) x in
     let all = ap (λ (xs : Vec Load Global). xs.items) y in

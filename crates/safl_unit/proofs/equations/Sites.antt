@@ -1,28 +1,14 @@
 -- What a site shows, by its registers.
+use Rattle.safl_unit.proofs.Common.{Builds, Choice, EachAt, IsSource, Netlist, Pins, Program, Returns, SitePins, SiteShown, UnitPins, Val}
+use Rattle.safl_unit.proofs.Common.{Wired, Word, gate, get_some, on, pin, source_kept, unit_for}
 use Rattle.std.proofs.Common.{◌≡◌, ℕ, zero, suc, ◌<◌, ◌≤◌, List, [], ◌∷◌, ◌++◌, length, slice_get, length-append, subst, Some, Bool, true, false, ◌&&◌, ◌||◌, not, cond, refl, sym, ap, ◌∙◌, arith}
-use Rattle.safl_sites.specs.Plan.{Choice}
-use Rattle.safl_word.specs.Words.{Word}
-use Rattle.safl_word.proofs.Lists.{get_some}
-use Rattle.safl_term.specs.Program.{Program, unit_for}
-use Rattle.safl_net.specs.Growth.{Val}
-use Rattle.safl_net.specs.Bits.{on, gate}
 use Rattle.safl_circuit.specs.Equations.{Registers, ret, on_wires, word_on}
-use Rattle.safl_lower.specs.Sources.{IsSource, Builds}
-use Rattle.safl_lower.specs.Tables.{EachAt, pin}
-use Rattle.safl_lower.proofs.Building.{source_kept}
-use Rattle.safl_unit.specs.declared.pins.UnitPins.{UnitPins}
-use Rattle.safl_unit.specs.declared.pins.SitePins.{SitePins}
 use Rattle.safl_unit.specs.declared.returns.SiteReturn.{SiteReturn}
-use Rattle.safl_net.specs.Netlist.{Netlist}
-use Rattle.safl_net.specs.Growth.{Wired}
 use Rattle.safl_lower.specs.Lowering.{returned_word, was_sent}
-use Rattle.safl_unit.specs.declared.pins.Pins.{Pins}
-use Rattle.safl_unit.specs.declared.pins.Returns.{Returns}
 use Rattle.safl_unit.specs.Cycles.{UnitShows, SiteShows, InEachCycle}
 use Rattle.safl_unit.specs.Stages.{PortFits, HasReturns}
 use Rattle.safl_unit.proofs.equations.Keeping.{port_kept, cycle_before}
 use Rattle.safl_unit.proofs.equations.Tables.{each_push, pin_get}
-use Rattle.safl_unit.specs.Returning.{SiteShown}
 
 -- the kept word counts where the site keeps it alone
 chosen : (kept late : Bool) (x y z : Word) → (kept ≡ true → x ≡ y) → cond (kept && late) x z ≡ cond (kept && late) y z

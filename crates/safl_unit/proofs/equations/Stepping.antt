@@ -1,26 +1,36 @@
 -- The next words of the registers, by one entry more.
-use Rattle.std.proofs.Common.{◌≡◌, ℕ, suc, ◌+◌, ◌<◌, List, [], ◌∷◌, ◌++◌, length, length-append, Option, Some}
-use Rattle.safl_sites.specs.Plan.{Choice}
-use Rattle.std.proofs.Common.{slice_get, ◌⊎◌, ⊎_elim, sym, ap, subst, ◌∙◌, arith}
+use Rattle.safl_unit.proofs.Common.{AreSources, Builds, Choice, IsSource, Load, MemberFits, MemberPins, Netlist, Program, Sig, SiteFits}
+use Rattle.safl_unit.proofs.Common.{SitePins, UnitFits, UnitPins, Val, Wired, Word, many, on, unwrap_or, wired_before, words}
+use Rattle.std.proofs.Common.{◌≡◌, ℕ, suc, ◌+◌, ◌<◌, List, [], ◌∷◌, ◌++◌, length, length-append, Option, Some, Bool, true, false, cond, Result, Ok, Err, IfOk}
+use Rattle.std.proofs.Common.{slice_get, slice_index_or, ◌⊎◌, ⊎_elim, refl, sym, ap, subst, ◌∙◌, arith}
 use Rattle.std.proofs.lemmas.Option.{same_Some}
-use Rattle.safl_term.specs.Program.{Program}
-use Rattle.safl_net.specs.declared.cell.Sig.{Sig}
-use Rattle.safl_net.specs.Netlist.{Netlist}
-use Rattle.safl_net.specs.Growth.{Val, Wired}
-use Rattle.safl_net.specs.Bits.{on}
-use Rattle.safl_circuit.specs.Equations.{many}
-use Rattle.safl_net.proofs.Growth.{wired_before}
-use Rattle.safl_lower.specs.declared.loads.Load.{Load}
-use Rattle.safl_lower.specs.Sources.{Builds}
-use Rattle.safl_lower.specs.Tables.{EachAt, pin, load_in, sig_in, taken_in, taken_from, on_in, on_from}
-use Rattle.safl_unit.specs.declared.pins.UnitPins.{UnitPins}
-use Rattle.safl_unit.specs.declared.pins.MemberPins.{MemberPins}
-use Rattle.safl_unit.specs.declared.pins.SitePins.{SitePins}
-use Rattle.safl_unit.specs.Cycles.{UnitFits, MemberFits, SiteFits}
+use Rattle.safl_lower.specs.Tables.{EachAt, pin, entry_in, taken_in, taken_from, on_in, on_from}
+use Rattle.safl_lower.proofs.Zeroing.{gate_else}
 use Rattle.safl_unit.specs.Steps.{UnitStep, MemberStep, SiteStep, UnitsNext, MembersNext, SitesNext}
 use Rattle.safl_unit.proofs.equations.Keeping.{unit_kept, member_kept, site_kept}
 use Rattle.safl_unit.proofs.equations.Sites.{first_only}
 use Rattle.safl_unit.proofs.equations.Tables.{each_none, each_push}
+
+-- a word of a load, and where it is chosen
+pub only_word : (n : Netlist) (xs : List Sig) (w : ℕ) (other : Sig) → AreSources n xs (w ∷ []) → other ≡ slice_index_or xs 0 other → IsSource n other w × (xs ≡ other ∷ [])
+only_word n [] w other h e = absurd h.widths
+only_word n (x ∷ []) w other h e =
+    let q : other ≡ x = e in (subst (λ (s : Sig). IsSource n s w) (sym q) (record { width = h.widths.0; steady = h.steady.0 }), ap (λ (s : Sig). s ∷ []) (sym q))
+only_word n (x ∷ (y ∷ xs)) w other h e = absurd h.widths.1
+
+words_show : (v : Val) (xs us : List Word) (o : Option Load) (l : Load) → o ≡ Some l → xs ≡ cond (on v l.bit) (words v l.words.items) us → xs ≡ unwrap_or (taken_in v o) us
+words_show v xs us o l e q = q ∙ sym (gate_else (on v l.bit) (words v l.words.items) us) ∙ ap (λ (x : Option Load). unwrap_or (taken_in v x) us) (sym e)
+
+one_chosen : (b : Bool) (x y : Word) → cond b x y ∷ [] ≡ cond b (x ∷ []) (y ∷ [])
+one_chosen true x y = refl
+one_chosen false x y = refl
+
+pub load_word_value : {E : Type 0} (m : Netlist) (r : Result Sig E) (load : Option Load) (l : Load) (other word : Sig) → load ≡ Some l → l.words.items ≡ other ∷ []
+    → IfOk r (λ s. (v : Val) → Wired m v → v s.0 ≡ cond (on v l.bit) (v other.0) (v word.0)) → IfOk r (λ s. (v : Val) → Wired m v → v s.0 ∷ [] ≡ unwrap_or (taken_in v load) (v word.0 ∷ []))
+load_word_value m (Ok s) load l other word e q h = λ v w.
+    words_show v (v s.0 ∷ []) (v word.0 ∷ []) load l e
+    (ap (λ (x : Word). x ∷ []) (h v w) ∙ one_chosen (on v l.bit) (v other.0) (v word.0) ∙ ap (λ (xs : List Sig). cond (on v l.bit) (words v xs) (v word.0 ∷ [])) (sym q))
+load_word_value m (Err x) load l other word e q h = tt
 
 -- one more entry, of the next number
 pub next_entry : {A : Type 0} (xs ys : List A) (a : A) (m : ℕ) (Q : ℕ → A → Type 0) → length xs ≡ m → ys ≡ xs ++ a ∷ [] → EachAt xs Q → Q m a → EachAt ys Q
@@ -40,7 +50,7 @@ no_units C n now ends starts after e = record {
 
 module _ (C : Program) (a b : Netlist) (now : List UnitPins) (ends : List (Option Load)) (starts : List (Option Sig)) (all ys : List UnitPins)
     (f u : ℕ) (end : Option Load) (start : Option Sig) (x y : UnitPins)
-    (so : UnitsNext C a now ends starts all f) (built : Builds a b 16) (of : u ≡ C.unit f) (width : C.result u ≡ C.result f) (own : C.unit u ≡ u)
+    (so : UnitsNext C a now ends starts all f) (built : Builds a b 5) (of : u ≡ C.unit f) (width : C.result u ≡ C.result f) (own : C.unit u ≡ u)
     (at_end : slice_get ends u ≡ Some end) (at_start : slice_get starts u ≡ Some start) (at : slice_get now u ≡ Some x)
     (this : (slice_get all u ≡ Some y) ⊎ (UnitFits b y (C.result u) × ((v : Val) → Wired b v → UnitStep v (taken_in v end) (on_in v start) x y))) (push : ys ≡ all ++ y ∷ []) where
   abbrev Step : Val → ℕ → UnitPins → UnitPins → Type 0
@@ -57,8 +67,8 @@ module _ (C : Program) (a b : Netlist) (now : List UnitPins) (ends : List (Optio
   own_step v h z e =
       let q : x ≡ z = same_Some x z (sym at ∙ e) in
       subst (λ (t : UnitPins). Step v u t y) q
-      (subst (λ (o : Option (Option Load)). UnitStep v (taken_in v (load_in o)) (on_from v starts u) x y) (sym at_end)
-      (subst (λ (o : Option (Option Sig)). UnitStep v (taken_in v end) (on_in v (sig_in o)) x y) (sym at_start) h))
+      (subst (λ (o : Option (Option Load)). UnitStep v (taken_in v (entry_in o)) (on_from v starts u) x y) (sym at_end)
+      (subst (λ (o : Option (Option Sig)). UnitStep v (taken_in v end) (on_in v (entry_in o)) x y) (sym at_start) h))
 
   step_here : (v : Val) → Wired b v → StepAt v (C.unit f) y
   step_here v w =
@@ -95,10 +105,10 @@ module _ (C : Program) (a b : Netlist) (k : ℕ) (now : List MemberPins) (entrie
   next_here v w z q =
       let same : x ≡ z = same_Some x z (sym at ∙ q) in
       subst (λ (t : MemberPins). MemberStep v (many C f) (on_from v entries f) (on_from v rivals f) (taken_from v loads f) (taken_from v looped f) t y) same
-      (subst (λ (o : Option (Option Sig)). MemberStep v (many C f) (on_in v (sig_in o)) (on_from v rivals f) (taken_from v loads f) (taken_from v looped f) x y) (sym at_entry)
-      (subst (λ (o : Option (Option Sig)). MemberStep v (many C f) (on_in v e) (on_in v (sig_in o)) (taken_from v loads f) (taken_from v looped f) x y) (sym at_rival)
-      (subst (λ (o : Option (Option Load)). MemberStep v (many C f) (on_in v e) (on_in v r) (taken_in v (load_in o)) (taken_from v looped f) x y) (sym at_load)
-      (subst (λ (o : Option (Option Load)). MemberStep v (many C f) (on_in v e) (on_in v r) (taken_in v l) (taken_in v (load_in o)) x y) (sym at_loop) (shown v w)))))
+      (subst (λ (o : Option (Option Sig)). MemberStep v (many C f) (on_in v (entry_in o)) (on_from v rivals f) (taken_from v loads f) (taken_from v looped f) x y) (sym at_entry)
+      (subst (λ (o : Option (Option Sig)). MemberStep v (many C f) (on_in v e) (on_in v (entry_in o)) (taken_from v loads f) (taken_from v looped f) x y) (sym at_rival)
+      (subst (λ (o : Option (Option Load)). MemberStep v (many C f) (on_in v e) (on_in v r) (taken_in v (entry_in o)) (taken_from v looped f) x y) (sym at_load)
+      (subst (λ (o : Option (Option Load)). MemberStep v (many C f) (on_in v e) (on_in v r) (taken_in v l) (taken_in v (entry_in o)) x y) (sym at_loop) (shown v w)))))
 
   pub more_members : MembersNext C b now entries rivals loads looped ys (f + 1)
   more_members = record {
@@ -131,7 +141,7 @@ module _ (C : Program) (P : Choice) (a b : Netlist) (units : List UnitPins) (now
       let unit : u ≡ h = same_Some u h (sym at_unit ∙ q) in
       subst (λ (t : SitePins). SiteStep v (P.kept k) (on v (pin rets k)) (on v (pin goes k)) (on_from v clears (C.unit (C.caller k))) (v h.res.0) t y) same
       (subst (λ (t : UnitPins). SiteStep v (P.kept k) (on v (pin rets k)) (on v (pin goes k)) (on_from v clears (C.unit (C.caller k))) (v t.res.0) x y) unit
-      (subst (λ (o : Option (Option Sig)). SiteStep v (P.kept k) (on v (pin rets k)) (on v (pin goes k)) (on_in v (sig_in o)) (v u.res.0) x y) (sym at_clear) (shown v w)))
+      (subst (λ (o : Option (Option Sig)). SiteStep v (P.kept k) (on v (pin rets k)) (on v (pin goes k)) (on_in v (entry_in o)) (v u.res.0) x y) (sym at_clear) (shown v w)))
 
   pub more_sites : SitesNext C P b units now rets goes clears ys k
   more_sites =

@@ -1,9 +1,7 @@
 -- Entries of tables.
+use Rattle.safl_unit.proofs.Common.{EachAt, Sig, get_pushed, pin}
 use Rattle.std.proofs.Common.{◌≡◌, ℕ, ◌<◌, List, [], ◌∷◌, ◌++◌, length, Some, slice_get, slice_index_or, inl, inr, sym, subst}
 use Rattle.std.proofs.lemmas.Option.{slice_get-get_or, get_or_from_slice_get}
-use Rattle.safl_word.proofs.Lists.{get_pushed}
-use Rattle.safl_net.specs.declared.cell.Sig.{Sig}
-use Rattle.safl_lower.specs.Tables.{pin, EachAt}
 
 pub each_none : {A : Type 0} (P : ℕ → A → Type 0) → EachAt [] P
 each_none P i x e = absurd (cc)

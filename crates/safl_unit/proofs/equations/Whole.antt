@@ -1,28 +1,12 @@
 -- All registers after the edge.
+use Rattle.safl_unit.proofs.Common.{Bank, Builds, Choice, Load, MemberPins, MembersNext, Netlist, Outcomes, Pins, Program, Returns, Sig}
+use Rattle.safl_unit.proofs.Common.{SitesNext, UnitPins, UnitsNext, get_some, on, on_from, pin, slice_get_within, taken_from, wired_before}
 use Rattle.std.proofs.Common.{ℕ, ◌<◌, ◌≤◌, List, Option, is_some, subst, arith}
-use Rattle.safl_sites.specs.Plan.{Choice}
-use Rattle.std.proofs.lemmas.Option.{slice_get_within}
-use Rattle.safl_word.proofs.Lists.{get_some}
-use Rattle.safl_term.specs.Program.{Program}
 use Rattle.safl_term.specs.WellFormed.{IsWellFormed}
-use Rattle.safl_net.specs.declared.cell.Sig.{Sig}
-use Rattle.safl_net.specs.Netlist.{Netlist}
-use Rattle.safl_net.specs.Bits.{on}
-use Rattle.safl_net.proofs.Growth.{wired_before}
 use Rattle.safl_circuit.specs.Equations.{starts, clears, starts_it, starts_other}
-use Rattle.safl_lower.specs.declared.loads.Load.{Load}
-use Rattle.safl_lower.specs.Tables.{pin, taken_from, on_from}
-use Rattle.safl_lower.specs.Sources.{Builds}
-use Rattle.safl_unit.specs.declared.pins.Pins.{Pins}
-use Rattle.safl_unit.specs.declared.pins.Bank.{Bank}
-use Rattle.safl_unit.specs.declared.pins.UnitPins.{UnitPins}
-use Rattle.safl_unit.specs.declared.pins.MemberPins.{MemberPins}
-use Rattle.safl_unit.specs.declared.pins.Returns.{Returns}
-use Rattle.safl_unit.specs.declared.pins.Outcomes.{Outcomes}
 use Rattle.safl_unit.specs.declared.events.Events.{Events}
 use Rattle.safl_unit.specs.Cycles.{PinsFit, UnitShows}
 use Rattle.safl_unit.specs.Stages.{HasReturns, HasOutcomes, HasGoes, HasNext}
-use Rattle.safl_unit.specs.Steps.{UnitsNext, MembersNext, SitesNext}
 use Rattle.safl_unit.specs.Coming.{HasEvents, EventsFit}
 use Rattle.safl_unit.proofs.equations.Keeping.{unit_kept, member_kept, ends_kept, all_loads_kept, tests_kept}
 use Rattle.safl_unit.proofs.equations.Following.{unit_follows, member_follows, site_follows}

@@ -1,20 +1,10 @@
 -- Signals that a net may take one after another.
+use Rattle.safl_unit.proofs.Common.{CheckedProgram, Choice, IsChecked, Names, Netlist, Program, Signal, append-nil, bytes_eq-Decides, codes}
+use Rattle.safl_unit.proofs.Common.{eq-eqb, eqb-false, eqb-true, map-append, nat_tests, of_function, of_site, refusal}
 use Rattle.std.proofs.Common.{◌≡◌, ℕ, zero, suc, ◌<◌, ◌≤◌, List, [], ◌∷◌, ◌++◌, map, take, Some, None, Bool, true, false, cond, ◌||◌, ◌==◌, nat_lt}
-use Rattle.safl_term.specs.Names.{Names}
 use Rattle.std.proofs.Common.{slice_get, bytes_eq, refl, sym, ap, subst, ◌∙◌, arith, append_assoc}
-use Rattle.std.specs.Prelude.{codes}
-use Rattle.std.proofs.lemmas.List.{append-nil, map-append}
-use Rattle.std.proofs.lemmas.Slice.Eq.{bytes_eq-Decides}
-use Rattle.std.proofs.lemmas.Bool.{eqb-true, eqb-false, eq-eqb}
-use Rattle.std.proofs.lemmas.Bool.Decides.{nat_tests}
-use Rattle.safl_term.specs.Program.{Program}
-use Rattle.safl_term.specs.Checked.{CheckedProgram, IsChecked}
 use Rattle.safl_net.specs.declared.net.NetErr.TheVariants.{NameTaken, BadName}
-use Rattle.safl_net.specs.Netlist.{Netlist, Signal}
 use Rattle.safl_net.specs.Names.{is_good, named_signal}
-use Rattle.safl_net.specs.Making.{refusal}
-use Rattle.safl_sites.specs.Plan.{Choice}
-use Rattle.safl_circuit.specs.Names.{of_function, of_site}
 use Rattle.safl_circuit.specs.Layout.{Line, lines, site_lines, site_wires, layout_inputs, layout_wires}
 use Rattle.safl_unit.specs.Finished.{input_line, open_register, open_wire}
 use Rattle.safl_unit.specs.Declaring.{with_signals, MayAdd, unit_head, function_lines, port_lines, arbiter_line}

@@ -1,12 +1,8 @@
 -- How many signals a circuit has at most.
+use Rattle.safl_unit.proofs.Common.{CheckedProgram, Choice, HasRoom, IsChecked, Netlist, length-map}
 use Rattle.std.proofs.Common.{◌≡◌, ℕ, suc, ◌+◌, ◌*◌, ◌≤◌, map, ◌++◌, length, length-append, ap, arith}
 use Rattle.std.specs.Prelude.{codes, [], ◌∷◌}
-use Rattle.std.proofs.lemmas.List.{length-map}
-use Rattle.safl_term.specs.Checked.{CheckedProgram, IsChecked}
-use Rattle.safl_sites.specs.Plan.{Choice}
 use Rattle.safl_circuit.specs.Layout.{lines, site_lines, unit_lines, function_wires, site_wires, layout_inputs, layout_registers, layout_wires}
-use Rattle.safl_lower.specs.Sources.{HasRoom}
-use Rattle.safl_net.specs.Netlist.{Netlist}
 use Rattle.safl_unit.specs.Finished.{input_line, open_register, open_wire, declared_signals, declared_net}
 use Rattle.safl_unit.proofs.layout.Declaring.{param_lines_long}
 use Rattle.safl_unit.proofs.layout.Pinning.{few_below, few_sites, body_wires_count, few_calls}

@@ -1,15 +1,7 @@
 -- The net that is declared, and its pins.
+use Rattle.safl_unit.proofs.Common.{CheckedProgram, Choice, IsChecked, Names, Netlist, Pins, Program, Sig, Signal, arity, codes, map-append}
 use Rattle.std.proofs.Common.{◌≡◌, ℕ, suc, ◌+◌, ◌≤◌, List, [], ◌∷◌, ◌++◌, map, length, length-append, sym, ap, ◌∙◌, arith, append_assoc}
-use Rattle.std.specs.Prelude.{codes}
-use Rattle.std.proofs.lemmas.List.{map-append}
-use Rattle.safl_term.specs.Program.{Program, arity}
-use Rattle.safl_term.specs.Checked.{CheckedProgram, IsChecked}
-use Rattle.safl_net.specs.declared.cell.Sig.{Sig}
-use Rattle.safl_net.specs.Netlist.{Netlist, Signal}
-use Rattle.safl_sites.specs.Plan.{Choice}
-use Rattle.safl_term.specs.Names.{Names}
 use Rattle.safl_circuit.specs.Layout.{lines, site_lines, layout_inputs, layout_registers, layout_wires}
-use Rattle.safl_unit.specs.declared.pins.Pins.{Pins}
 use Rattle.safl_unit.specs.Finished.{input_line, open_register, open_wire, declared_net, ArePins}
 use Rattle.safl_unit.specs.Ties.{sig_of, ties, numbered, function_ties, site_ties}
 use Rattle.safl_unit.specs.Declaring.{with_signals, function_lines, port_lines, FunctionsPinned, SitesPinned}

@@ -1,21 +1,15 @@
 -- Signals that are declared line by line.
+use Rattle.safl_unit.proofs.Common.{CheckedProgram, Line, Netlist, Sig, Signal, get_map, named, numbered, take_suc, with_signals}
 use Rattle.std.proofs.Common.{◌≡◌, ℕ, zero, suc, ◌+◌, ◌≤◌, List, [], ◌∷◌, ◌++◌, map, length, length-append, take, Some, None, slice_get, refl, sym, ap, subst, ◌∙◌, arith, append_assoc}
 use Rattle.std.specs.Str.{IsUtf8}
 use Rattle.std.specs.String.{string_bytes}
 use Rattle.std.specs.Option.{option_map_or}
 use Rattle.std.proofs.lemmas.Str.{IsUtf8-nil, IsUtf8-string_bytes}
 use Rattle.std.proofs.lemmas.List.{append-nil, length-map, length-take-le, map-append}
-use Rattle.safl_word.proofs.Lists.{get_map, take_suc}
-use Rattle.safl_term.specs.Checked.{CheckedProgram}
 use Rattle.safl_term.specs.Tables.{Tables, name_of, param_names}
 use Rattle.safl_term.proofs.HeldByChecked.{each_checked, params_named}
 use Rattle.safl_term.specs.declared.checked.Function.{Function}
 use Rattle.safl_term.specs.declared.checked.Parameter.{Parameter}
-use Rattle.safl_net.specs.declared.cell.Sig.{Sig}
-use Rattle.safl_net.specs.Netlist.{Netlist, Signal}
-use Rattle.safl_circuit.specs.Layout.{Line, named}
-use Rattle.safl_unit.specs.Ties.{numbered}
-use Rattle.safl_unit.specs.Declaring.{with_signals}
 
 -- ---- names are texts
 

@@ -1,29 +1,13 @@
 -- The pins of the declared net have the widths of the registers.
+use Rattle.safl_unit.proofs.Common.{AreSources, CheckedProgram, Choice, IsChecked, IsSource, MemberFits, MemberPins, Names, Netlist, Pins}
+use Rattle.safl_unit.proofs.Common.{PinsFit, Program, Sig, Signal, SiteFits, SitePins, UnitFits, UnitPins, codes, eq-eqb, length-map}
+use Rattle.safl_unit.proofs.Common.{lt-ltb, many, of_function, of_param, of_site, params_named, slice_get_within}
 use Rattle.std.proofs.Common.{◌≡◌, ℕ, suc, ◌<◌, List, [], ◌∷◌, ◌++◌, map, length, length-append, append_assoc, Some, Bool, true, false, cond}
-use Rattle.safl_term.specs.Names.{Names}
-use Rattle.safl_sites.specs.Plan.{Choice}
 use Rattle.std.proofs.Common.{slice_get, nat_lt, inl, inr, refl, sym, ap, subst, ◌∙◌, arith}
-use Rattle.std.specs.Prelude.{codes}
-use Rattle.std.proofs.lemmas.Option.{slice_get_within}
-use Rattle.std.proofs.lemmas.Bool.{eq-eqb, lt-ltb}
-use Rattle.std.proofs.lemmas.List.{length-map}
 use Rattle.std.proofs.lemmas.Simd.{map-map}
-use Rattle.safl_term.specs.Program.{Program}
-use Rattle.safl_term.specs.Checked.{CheckedProgram, IsChecked}
-use Rattle.safl_term.proofs.HeldByChecked.{params_named}
-use Rattle.safl_net.specs.declared.cell.Sig.{Sig}
-use Rattle.safl_net.specs.Netlist.{Netlist, Signal}
 use Rattle.safl_net.specs.Growth.{maybe_width}
 use Rattle.safl_net.proofs.Settling.{steady_by}
-use Rattle.safl_circuit.specs.Equations.{many}
-use Rattle.safl_circuit.specs.Names.{of_function, of_site, of_param}
 use Rattle.safl_circuit.specs.Layout.{named, layout_inputs, layout_registers, layout_wires}
-use Rattle.safl_lower.specs.Sources.{IsSource, AreSources}
-use Rattle.safl_unit.specs.declared.pins.UnitPins.{UnitPins}
-use Rattle.safl_unit.specs.declared.pins.MemberPins.{MemberPins}
-use Rattle.safl_unit.specs.declared.pins.SitePins.{SitePins}
-use Rattle.safl_unit.specs.declared.pins.Pins.{Pins}
-use Rattle.safl_unit.specs.Cycles.{UnitFits, MemberFits, SiteFits, PinsFit}
 use Rattle.safl_unit.specs.Ties.{Tie, line_of, tied, ties, numbered, unit_ties, member_ties, function_ties, call_registers, site_ties, register_ties}
 use Rattle.safl_unit.specs.Finished.{input_line, open_register, open_wire, declared_net, ArePins}
 use Rattle.safl_unit.proofs.assembly.Members.{Among, among_left, among_right, among_ties, among_cond, made_there, get_at}

@@ -1,22 +1,9 @@
 -- The lines of the ties of a bank are those of the layout.
+use Rattle.safl_unit.proofs.Common.{Bank, CheckedProgram, Choice, EachAt, IsChecked, MemberPins, Names, Program, Sig, SitePins, UnitPins}
+use Rattle.safl_unit.proofs.Common.{argument_lines, at_line, codes, function_lines, many, map-append, of_function, of_param, unit_head}
 use Rattle.std.proofs.Common.{◌≡◌, ℕ, zero, suc, ◌<◌, List, [], ◌∷◌, ◌++◌, map, length, Some, Bool, true, false, cond, slice_get, ◌==◌, nat_lt, refl, sym, ap, ◌∙◌, arith}
-use Rattle.safl_term.specs.Names.{Names}
-use Rattle.safl_sites.specs.Plan.{Choice}
-use Rattle.std.specs.Prelude.{codes}
-use Rattle.std.proofs.lemmas.List.{map-append}
-use Rattle.safl_term.specs.Program.{Program}
-use Rattle.safl_term.specs.Checked.{CheckedProgram, IsChecked}
-use Rattle.safl_net.specs.declared.cell.Sig.{Sig}
-use Rattle.safl_circuit.specs.Equations.{many}
-use Rattle.safl_circuit.specs.Names.{of_function, of_param}
 use Rattle.safl_circuit.specs.Layout.{Line, lines, unit_lines, site_lines, layout_registers}
-use Rattle.safl_lower.specs.Tables.{EachAt}
-use Rattle.safl_unit.specs.declared.pins.UnitPins.{UnitPins}
-use Rattle.safl_unit.specs.declared.pins.MemberPins.{MemberPins}
-use Rattle.safl_unit.specs.declared.pins.SitePins.{SitePins}
-use Rattle.safl_unit.specs.declared.pins.Bank.{Bank}
 use Rattle.safl_unit.specs.Ties.{Tie, line_of, ties, tied, unit_ties, member_ties, function_ties, call_registers, site_ties, register_ties}
-use Rattle.safl_unit.specs.Declaring.{unit_head, at_line, argument_lines, function_lines}
 use Rattle.safl_unit.proofs.layout.Declaring.{param_lines_long}
 use Rattle.safl_unit.proofs.layout.Ordering.{units_in_order}
 

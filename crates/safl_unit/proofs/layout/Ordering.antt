@@ -1,15 +1,9 @@
 -- The registers of the layout, which stand by unit, in the order of the functions.
+use Rattle.safl_unit.proofs.Common.{CheckedProgram, IsChecked, Names, Program, and-false, append-nil, argument_lines, at_line, codes}
+use Rattle.safl_unit.proofs.Common.{eq-eqb, eqb-false, eqb-true, function_lines, lt-ltb, ne_eqb}
 use Rattle.std.proofs.Common.{◌≡◌, ℕ, zero, suc, ◌<◌, ◌≤◌, List, [], ◌∷◌, ◌++◌, Bool, true, false, cond, ◌==◌, ◌&&◌, nat_lt, refl, sym, ap, ◌∙◌, arith, append_assoc}
-use Rattle.safl_term.specs.Names.{Names}
-use Rattle.std.specs.Prelude.{codes}
-use Rattle.std.proofs.lemmas.Bool.{eqb-true, eqb-false, eq-eqb, ne_eqb, lt-ltb}
-use Rattle.std.proofs.lemmas.List.{append-nil}
-use Rattle.std.proofs.Math.Bool.{and-false}
-use Rattle.safl_term.specs.Program.{Program}
-use Rattle.safl_term.specs.Checked.{CheckedProgram, IsChecked}
 use Rattle.safl_circuit.specs.Names.{of_function, is_unit}
 use Rattle.safl_circuit.specs.Layout.{Line, lines, member_lines, unit_lines}
-use Rattle.safl_unit.specs.Declaring.{at_line, argument_lines, function_lines}
 
 pub lines_cong : (g h : ℕ → List Line) (n : ℕ) → ((i : ℕ) → i < n → g i ≡ h i) → lines g n ≡ lines h n
 unfolding lines

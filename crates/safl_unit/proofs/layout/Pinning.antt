@@ -1,25 +1,10 @@
 -- The registers of functions, in the order of their lines.
+use Rattle.safl_unit.proofs.Common.{CheckedProgram, Choice, IsChecked, MemberPins, Names, Netlist, Program, Sig, Signal, SitePins, UnitPins}
+use Rattle.safl_unit.proofs.Common.{arity, codes, eqb-false, eqb-true, get_end, get_in_front, get_pushed, main_is_last, many, map-append}
+use Rattle.safl_unit.proofs.Common.{of_function, of_param, of_site, open_register, slice_get_within, unit_for}
 use Rattle.std.proofs.Common.{◌≡◌, ℕ, zero, suc, ◌+◌, ◌-◌, ◌*◌, ◌<◌, ◌≤◌, List, [], ◌∷◌, ◌++◌, map, length, length-append, Some, Bool, true, false}
-use Rattle.safl_term.specs.Names.{Names}
-use Rattle.safl_sites.specs.Plan.{Choice}
 use Rattle.std.proofs.Common.{cond, slice_get, ◌==◌, nat_lt, inl, inr, refl, sym, ap, subst, ◌∙◌, arith}
-use Rattle.std.proofs.lemmas.Bool.{eqb-true, eqb-false}
-use Rattle.std.proofs.lemmas.Option.{slice_get_within}
-use Rattle.safl_term.specs.Program.{Program, arity, unit_for}
-use Rattle.safl_term.specs.Checked.{CheckedProgram, IsChecked}
-use Rattle.safl_term.proofs.HeldByChecked.{main_is_last}
-use Rattle.safl_net.specs.declared.cell.Sig.{Sig}
-use Rattle.safl_net.specs.Netlist.{Netlist, Signal}
-use Rattle.safl_circuit.specs.Equations.{many}
-use Rattle.safl_circuit.specs.Names.{of_function, of_param, of_site}
-use Rattle.std.specs.Prelude.{codes}
-use Rattle.std.proofs.lemmas.List.{map-append}
-use Rattle.safl_word.proofs.Lists.{get_end, get_in_front, get_pushed}
 use Rattle.safl_circuit.specs.Layout.{Line, lines, site_lines, function_wires, site_wires}
-use Rattle.safl_unit.specs.declared.pins.UnitPins.{UnitPins}
-use Rattle.safl_unit.specs.declared.pins.MemberPins.{MemberPins}
-use Rattle.safl_unit.specs.declared.pins.SitePins.{SitePins}
-use Rattle.safl_unit.specs.Finished.{open_register}
 use Rattle.safl_unit.specs.Ties.{Tie, sig_of, ties, tied, numbered, unit_ties, member_ties, function_ties, site_ties, call_registers}
 use Rattle.safl_unit.specs.Declaring.{with_signals, unit_head, at_line, argument_lines, function_lines, Pinned, FunctionsPinned, SitePinned, SitesPinned}
 use Rattle.safl_unit.proofs.equations.Tables.{each_push}

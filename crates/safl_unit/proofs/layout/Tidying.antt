@@ -1,14 +1,8 @@
 -- The declared net has no temporaries.
+use Rattle.safl_unit.proofs.Common.{Choice, IsSettled, Names, Program, codes, false≢true, many, unit_for}
 use Rattle.std.proofs.Common.{◌≡◌, ℕ, zero, suc, List, [], ◌∷◌, ◌++◌, map, Some, None, Bool, true, false, cond, slice_get, ◌==◌, nat_lt, refl, sym, ap, ◌∙◌}
-use Rattle.safl_term.specs.Names.{Names}
-use Rattle.safl_sites.specs.Plan.{Choice}
-use Rattle.std.specs.Prelude.{codes}
-use Rattle.std.proofs.lemmas.Bool.{false≢true}
-use Rattle.safl_term.specs.Program.{Program, unit_for}
 use Rattle.safl_net.specs.Netlist.{Netlist, Signal, Wire, Cell}
-use Rattle.safl_net.specs.Settled.{IsSettled}
 use Rattle.safl_net.specs.Names.{is_temp, IsTidy}
-use Rattle.safl_circuit.specs.Equations.{many}
 use Rattle.safl_circuit.specs.Names.{of_function, of_site, of_param, is_unit}
 use Rattle.safl_circuit.specs.Layout.{Line, lines, named, member_lines, unit_lines, site_lines, function_wires, site_wires, layout_inputs, layout_registers, layout_wires}
 use Rattle.safl_unit.specs.Finished.{input_line, open_register, open_wire, declared_signals, declared_net}

@@ -1,10 +1,8 @@
 -- The names of a circuit's signals are good, and show their heads and what they are of.
+use Rattle.safl_unit.proofs.Common.{between, list_all, nat_tests}
 use Rattle.std.proofs.Common.{◌≡◌, ℕ, ◌+◌, ◌<◌, ◌≤◌, ◌^◌, ◌%◌, List, [], ◌∷◌, ◌++◌, length, length-append, Bool, true, false, not, cond, ◌==◌, ◌&&◌, nat_le, decimal, refl, ap, ◌∙◌, arith}
-use Rattle.std.specs.List.{list_all}
 use Rattle.std.proofs.lemmas.Bool.{and_parts, and_from, or_left, or_right}
-use Rattle.std.proofs.lemmas.Bool.Decides.{nat_tests}
 use Rattle.std.proofs.lemmas.Fmt.{decimal_by_steps, length-decimal-le}
-use Rattle.safl_word.specs.Numerals.{between}
 use Rattle.safl_word.specs.Tokens.{IsSourceName, begins_name, in_name}
 use Rattle.safl_word.proofs.Lexemes.{all_in_name}
 use Rattle.safl_word.proofs.Naturals.{short_enough}

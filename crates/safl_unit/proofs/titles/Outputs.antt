@@ -1,14 +1,9 @@
 -- No signal has the name of an output.
+use Rattle.safl_unit.proofs.Common.{AreTemps, Choice, Grows, Netlist, Signal, bytes_eq-Decides, codes, refusal, with_output}
 use Rattle.std.proofs.Common.{◌≡◌, ℕ, suc, ◌≤◌, List, [], ◌∷◌, ◌++◌, map, None, Bool, true, false, ◌||◌, bytes_eq, refl, sym, ap, subst, ◌∙◌, arith}
-use Rattle.std.specs.Prelude.{codes}
-use Rattle.std.proofs.lemmas.Slice.Eq.{bytes_eq-Decides}
 use Rattle.std.proofs.lemmas.Bool.{or_from}
 use Rattle.safl_term.specs.Checked.{CheckedProgram, IsChecked}
-use Rattle.safl_net.specs.Netlist.{Netlist, Signal}
 use Rattle.safl_net.specs.Names.{is_good, is_reserved, is_temp, has_name, named_signal, named_output, wires}
-use Rattle.safl_net.specs.Growth.{AreTemps, Grows}
-use Rattle.safl_net.specs.Making.{refusal, with_output}
-use Rattle.safl_sites.specs.Plan.{Choice}
 use Rattle.safl_circuit.specs.Layout.{lines, site_lines, layout_inputs, layout_wires}
 use Rattle.safl_unit.specs.Finished.{input_line, open_register, open_wire, declared_signals, declared_net}
 use Rattle.safl_unit.proofs.layout.Ordering.{units_in_order}

@@ -1,18 +1,10 @@
 -- The names of a circuit's layout are good, and all different.
+use Rattle.safl_unit.proofs.Common.{CheckedProgram, Choice, IsChecked, Names, Program, argument_lines, at_line, between, codes}
+use Rattle.safl_unit.proofs.Common.{function_lines, list_all, many, of_param, of_site, unit_for, unit_head}
 use Rattle.std.proofs.Common.{◌≡◌, ℕ, suc, ◌<◌, ◌≤◌, List, [], ◌∷◌, ◌++◌, length-append, Some, true, false, cond, ◌==◌, nat_lt, slice_get, decimal, refl, sym, ap, ◌∙◌, arith}
-use Rattle.safl_term.specs.Names.{Names}
-use Rattle.safl_sites.specs.Plan.{Choice}
-use Rattle.std.specs.Prelude.{codes}
-use Rattle.std.specs.List.{list_all}
 use Rattle.std.proofs.lemmas.Fmt.{decimal_injective}
-use Rattle.safl_word.specs.Numerals.{between}
-use Rattle.safl_term.specs.Program.{Program, unit_for}
-use Rattle.safl_term.specs.Checked.{CheckedProgram, IsChecked}
 use Rattle.safl_net.specs.Names.{is_good, is_reserved}
-use Rattle.safl_circuit.specs.Equations.{many}
-use Rattle.safl_circuit.specs.Names.{of_site, of_param}
 use Rattle.safl_circuit.specs.Layout.{Line, lines, site_lines, function_wires, site_wires, layout_inputs, layout_wires}
-use Rattle.safl_unit.specs.Declaring.{unit_head, at_line, argument_lines, function_lines}
 use Rattle.safl_unit.proofs.titles.Legal.{IsPiece, name_piece, decimal_piece, decimal_digits, good_headed, pair_parts, after_mark, piece_before, piece_after}
 use Rattle.safl_unit.proofs.titles.Apart.{Each, Other, Differ, each_more, each_weaker, each_cond, each_lines, each_named, differ_more, differ_cond}
 use Rattle.safl_unit.proofs.titles.Apart.{differ_named, differ_lines, head_of, key_of, Belongs, Between, between_of, heads_apart, headed}

@@ -1,11 +1,6 @@
+use Rattle.safl_lower.proofs.Common.{IsSource, Readiness, gate, is_ready, on, one_word, wired_before}
 use Rattle.std.proofs.Common.{Some, Bool, sym, ap, subst, ◌∙◌, arith}
-use Rattle.safl_net.specs.Bits.{on, gate}
-use Rattle.safl_net.proofs.Growth.{wired_before}
-use Rattle.safl_lower.specs.Sources.{IsSource}
-use Rattle.safl_lower.specs.Tables.{one_word}
 use Rattle.safl_lower.proofs.Building.{source_grown, source_kept, builds_on, builds_within}
-use Rattle.safl_lower.specs.declared.lowered.Readiness.{Readiness}
-use Rattle.safl_lower.specs.Bits.{is_ready}
 use Rattle.safl_lower.proofs.Arms.{gate_none, gate_gate}
 use Rattle.safl_lower.proofs.Ending.{one_load_fits, one_load_takes}
 use Rattle.safl_lower.proofs.body.end.Goals as goal

@@ -1,11 +1,7 @@
+use Rattle.safl_lower.proofs.Common.{Builds, Owner, TailCall, grows_on, shown_term}
 use Rattle.std.proofs.Common.{◌≡◌, ◌+◌, ◌-◌, ◌<◌, ℕ, List, map, ap, subst, sym, length, arith}
 use Rattle.safl_term.specs.Terms.{Term}
-use Rattle.safl_term.specs.Tree.{shown_term}
-use Rattle.safl_net.proofs.Growth.{grows_on}
-use Rattle.safl_lower.specs.Sources.{Builds}
 use Rattle.safl_lower.proofs.Building.{source_grown}
-use Rattle.safl_lower.specs.declared.lowered.TailCall.{TailCall}
-use Rattle.safl_lower.specs.Typing.{Owner}
 use Rattle.safl_lower.specs.Entries.{site_of, member_of, Between, LoopsFit, cost}
 use Rattle.safl_lower.specs.Lowering.{Lowerable}
 use Rattle.safl_lower.specs.Loads.{Listed, Spreads, Merged}

@@ -1,6 +1,5 @@
-use Rattle.std.proofs.Common.{◌≡◌, map, Some}
+use Rattle.safl_lower.proofs.Common.{Load, Some, map, ◌≡◌}
 use Rattle.std.proofs.lemmas.Result.{IfOk-weaker}
-use Rattle.safl_lower.specs.declared.loads.Load.{Load}
 use Rattle.safl_lower.specs.Loads.{Spreads}
 use Rattle.safl_lower.proofs.Laid.{all_placed, each_there}
 use Rattle.safl_lower.proofs.calls_by_site.spread.Goals as goal

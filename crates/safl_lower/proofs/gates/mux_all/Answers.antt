@@ -1,15 +1,7 @@
+use Rattle.safl_lower.proofs.Common.{AllWithin, AreSources, IsSource, Netlist, Sig, get_index, on, take_all, wired_before, words}
 use Rattle.std.proofs.Common.{◌≡◌, ℕ, ◌+◌, ◌<◌, List, [], ◌∷◌, ◌++◌, length, take, Some, slice_get, slice_index_or, cond, subst, sym, refl, ap, ◌∙◌, arith}
-use Rattle.std.proofs.lemmas.List.{take_all}
-use Rattle.safl_word.proofs.Lists.{get_index}
-use Rattle.safl_net.specs.declared.cell.Sig.{Sig}
-use Rattle.safl_net.specs.Netlist.{Netlist}
-use Rattle.safl_net.specs.Growth.{words}
-use Rattle.safl_net.proofs.Growth.{wired_before}
-use Rattle.safl_net.specs.Bits.{on}
-use Rattle.safl_lower.specs.Sources.{IsSource, AreSources}
 use Rattle.safl_lower.proofs.Building.{builds_on, builds_within, source_kept, sources_kept}
 use Rattle.safl_lower.proofs.Cells.{chosen_more, source_at, sources_length, sources_more}
-use Rattle.safl_lower.specs.Heights.{AllWithin}
 use Rattle.safl_lower.proofs.Heights.{all_kept, chosen_within}
 use Rattle.safl_lower.proofs.gates.mux_all.Goals as goal
 

@@ -1,8 +1,5 @@
+use Rattle.safl_lower.proofs.Common.{AllWithin, AreSources, Builds, Val, Wired, on, words}
 use Rattle.std.proofs.Common.{◌≡◌, ℕ, List, ◌∷◌, ◌++◌, cond, take}
-use Rattle.safl_net.specs.Growth.{Val, words, Wired}
-use Rattle.safl_net.specs.Bits.{on}
-use Rattle.safl_lower.specs.Sources.{AreSources, Builds}
-use Rattle.safl_lower.specs.Heights.{AllWithin}
 use Rattle.safl_lower.proofs.gates.mux_all.Given as goal
 
 abbrev pub invariant-loop-i : goal.invariant-loop-i

@@ -1,10 +1,5 @@
+use Rattle.safl_lower.proofs.Common.{IsSource, Netlist, Sig, Val, Wired, Word, on}
 use Rattle.std.proofs.Common.{◌≡◌, IfOk, Ok, Err, Result, false, ap, subst, ◌∙◌, ◌==◌}
-use Rattle.safl_word.specs.Words.{Word}
-use Rattle.safl_net.specs.declared.cell.Sig.{Sig}
-use Rattle.safl_net.specs.Netlist.{Netlist}
-use Rattle.safl_net.specs.Growth.{Val, Wired}
-use Rattle.safl_net.specs.Bits.{on}
-use Rattle.safl_lower.specs.Sources.{IsSource}
 use Rattle.safl_lower.proofs.gates.zero.Goals as goal
 
 never : {E : Type 0} (m : Netlist) (r : Result Sig E) (w : Word) → w ≡ record { width = 1; bits = 0 } → IfOk r

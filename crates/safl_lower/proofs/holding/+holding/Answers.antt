@@ -1,8 +1,6 @@
+use Rattle.safl_lower.proofs.Common.{nodes, nodes_in, shown_term, shown_terms, slice_get_read, smaller_at}
 use Rattle.std.proofs.Common.{rules, ◌+◌, ◌*◌, ◌<◌, length, refl, sym, ◌∙◌}
-use Rattle.std.proofs.lemmas.Option.{slice_get_read}
-use Rattle.safl_term.specs.Tree.{shown_term, shown_terms}
-use Rattle.safl_term.specs.Sizes.{nodes, nodes_in}
-use Rattle.safl_lower.proofs.ListedTerms.{smaller_at, holds_at, none_so_far}
+use Rattle.safl_lower.proofs.ListedTerms.{holds_at, none_so_far}
 use Rattle.safl_lower.proofs.holding.+holding.Goals as goal
 
 -- ---- a list of terms

@@ -1,7 +1,5 @@
+use Rattle.safl_lower.proofs.Common.{hold_calls, nodes, nodes_in, shown_term, shown_terms}
 use Rattle.std.proofs.Common.{◌≡◌, ◌+◌, ◌*◌, false, take}
-use Rattle.safl_term.specs.Sizes.{nodes, nodes_in}
-use Rattle.safl_lower.specs.Typing.{hold_calls}
-use Rattle.safl_term.specs.Tree.{shown_term, shown_terms}
 use Rattle.safl_lower.proofs.holding.+holding.Given as goal
 
 abbrev pub invariant-hold_calls-loop-t : goal.invariant-hold_calls-loop-t

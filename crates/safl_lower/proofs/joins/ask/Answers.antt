@@ -1,17 +1,9 @@
+use Rattle.safl_lower.proofs.Common.{IsSource, SitePorts, Want, asked, grows_on, is_ready, on, or_else, wired_before, words}
 use Rattle.std.proofs.Common.{◌≡◌, ap, ◌∙◌, ◌-◌, ◌==◌, ◌&&◌, not, Bool, Option, Some, length, refl, sym, subst, arith}
 use Rattle.std.proofs.lemmas.Option.{slice_get_read, slice_get_within}
-use Rattle.safl_net.specs.Growth.{words}
-use Rattle.safl_net.proofs.Growth.{grows_on, wired_before}
-use Rattle.safl_term.specs.Readiness.{or_else}
-use Rattle.safl_lower.specs.declared.lowered.SitePorts.{SitePorts}
-use Rattle.safl_lower.specs.declared.lowered.Want.{Want}
-use Rattle.safl_net.specs.Bits.{on}
-use Rattle.safl_lower.specs.Bits.{is_ready}
-use Rattle.safl_lower.specs.Entries.{asked}
 use Rattle.safl_lower.specs.Lowering.{was_sent, open_at}
 use Rattle.safl_lower.proofs.Kept.{asked_end, three_gates, ready_kept}
 use Rattle.safl_lower.proofs.joins.ask.Goals as goal
-use Rattle.safl_lower.specs.Sources.{IsSource}
 use Rattle.safl_lower.proofs.Building.{source_grown, builds_on, builds_within}
 
 pub index-port-requires : goal.index-port-requires

@@ -1,9 +1,5 @@
+use Rattle.safl_lower.proofs.Common.{Val, Wired, holds_calls, is_ready, on, shown_term}
 use Rattle.std.proofs.Common.{◌≡◌, ◌&&◌, true}
-use Rattle.safl_net.specs.Growth.{Val, Wired}
-use Rattle.safl_term.specs.Tree.{shown_term}
-use Rattle.safl_net.specs.Bits.{on}
-use Rattle.safl_lower.specs.Bits.{is_ready}
-use Rattle.safl_lower.specs.Typing.{holds_calls}
 use Rattle.safl_lower.proofs.Kept.{weaker}
 use Rattle.safl_lower.proofs.joins.body_path.Goals as goal
 

@@ -1,6 +1,5 @@
+use Rattle.safl_lower.proofs.Common.{grows_on, on, wired_before}
 use Rattle.std.proofs.Common.{ap, ◌∙◌, ◌&&◌, not, Bool, arith}
-use Rattle.safl_net.proofs.Growth.{grows_on, wired_before}
-use Rattle.safl_net.specs.Bits.{on}
 use Rattle.safl_lower.proofs.joins.branch_paths.Goals as goal
 use Rattle.safl_lower.proofs.Building.{source_grown, builds_on, builds_within}
 

@@ -1,7 +1,5 @@
+use Rattle.safl_lower.proofs.Common.{grows_on, is_ready, on, wired_before}
 use Rattle.std.proofs.Common.{ap, ◌∙◌, ◌&&◌, Bool, inr, arith}
-use Rattle.safl_net.proofs.Growth.{grows_on, wired_before}
-use Rattle.safl_net.specs.Bits.{on}
-use Rattle.safl_lower.specs.Bits.{is_ready}
 use Rattle.safl_lower.proofs.Arms.{chosen}
 use Rattle.safl_lower.proofs.Kept.{ready_kept}
 use Rattle.safl_lower.proofs.joins.choose.Goals as goal

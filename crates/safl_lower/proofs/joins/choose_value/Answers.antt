@@ -1,11 +1,7 @@
+use Rattle.safl_lower.proofs.Common.{IsSource, Never, Val, Wired, is_ready, on}
 use Rattle.std.proofs.Common.{◌≡◌, true, cond}
-use Rattle.safl_net.specs.Growth.{Val, Wired}
-use Rattle.safl_lower.specs.declared.lowered.Readiness.TheVariants.{Never}
-use Rattle.safl_net.specs.Bits.{on}
-use Rattle.safl_lower.specs.Bits.{is_ready}
 use Rattle.safl_lower.proofs.Kept.{weaker}
 use Rattle.safl_lower.proofs.joins.choose_value.Goals as goal
-use Rattle.safl_lower.specs.Sources.{IsSource}
 
 pub returns-in_default : goal.returns-in_default
 returns-in_default c =

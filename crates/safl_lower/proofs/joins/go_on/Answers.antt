@@ -1,10 +1,4 @@
-use Rattle.std.proofs.Common.{ap, ◌∙◌}
-use Rattle.safl_net.specs.Growth.{words}
-use Rattle.safl_term.specs.Readiness.{or_else}
-use Rattle.safl_lower.specs.declared.lowered.TailCall.{TailCall}
-use Rattle.safl_net.specs.Bits.{on}
-use Rattle.safl_lower.specs.Bits.{is_ready}
-use Rattle.safl_lower.specs.Entries.{went}
+use Rattle.safl_lower.proofs.Common.{TailCall, ap, is_ready, on, or_else, went, words, ◌∙◌}
 use Rattle.safl_lower.proofs.Kept.{went_end, goes_gate}
 use Rattle.safl_lower.proofs.joins.go_on.Goals as goal
 

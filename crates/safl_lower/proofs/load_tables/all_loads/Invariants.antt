@@ -1,5 +1,4 @@
-use Rattle.std.proofs.Common.{◌≡◌, map, Some}
-use Rattle.safl_lower.specs.declared.loads.Load.{Load}
+use Rattle.safl_lower.proofs.Common.{Load, Some, map, ◌≡◌}
 use Rattle.safl_lower.proofs.load_tables.all_loads.Given as goal
 
 abbrev pub invariant-loop-place : goal.invariant-loop-place

@@ -1,5 +1,4 @@
-use Rattle.std.proofs.Common.{length, refl}
-use Rattle.std.proofs.lemmas.Option.{slice_get_read}
+use Rattle.safl_lower.proofs.Common.{length, refl, slice_get_read}
 use Rattle.safl_lower.proofs.KnownLoads.{bits_kept}
 use Rattle.safl_lower.proofs.Joining.{bits_set, bits_set_fit}
 use Rattle.safl_lower.proofs.loads.add_bit.Goals as goal

@@ -1,6 +1,4 @@
-use Rattle.std.proofs.Common.{length, refl}
-use Rattle.std.proofs.lemmas.Option.{slice_get_read}
-use Rattle.safl_net.specs.Growth.{words}
+use Rattle.safl_lower.proofs.Common.{length, refl, slice_get_read, words}
 use Rattle.safl_lower.proofs.KnownLoads.{some_kept}
 use Rattle.safl_lower.proofs.Joining.{loads_set, loads_set_fit, load_at}
 use Rattle.safl_lower.proofs.loads.add_load.Goals as goal

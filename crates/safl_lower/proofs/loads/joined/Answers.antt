@@ -1,9 +1,5 @@
+use Rattle.safl_lower.proofs.Common.{AreSources, Sig, on, wired_before, words}
 use Rattle.std.proofs.Common.{◌+◌, List, [], ◌∷◌, length, subst, sym, ap, ◌∙◌, arith, cond}
-use Rattle.safl_net.specs.declared.cell.Sig.{Sig}
-use Rattle.safl_net.specs.Growth.{words}
-use Rattle.safl_net.proofs.Growth.{wired_before}
-use Rattle.safl_net.specs.Bits.{on}
-use Rattle.safl_lower.specs.Sources.{AreSources}
 use Rattle.safl_lower.proofs.Building.{builds_on, builds_within, source_kept, sources_kept}
 use Rattle.safl_lower.proofs.Joining.{first_fits, as_many, joined_shows}
 use Rattle.safl_lower.proofs.Heights.{gate_kept, joined_within, alone_load}

@@ -1,11 +1,5 @@
+use Rattle.safl_lower.proofs.Common.{AreSources, Builds, Sig, gate, grows_on, on, option_or, slice_get_read, words}
 use Rattle.std.proofs.Common.{◌+◌, ◌&&◌, ◌==◌, ◌-◌, List, length, Some, refl, sym, ap, subst, ◌∙◌, arith}
-use Rattle.std.specs.Option.{option_or}
-use Rattle.std.proofs.lemmas.Option.{slice_get_read}
-use Rattle.safl_net.specs.declared.cell.Sig.{Sig}
-use Rattle.safl_net.specs.Growth.{words}
-use Rattle.safl_net.specs.Bits.{on, gate}
-use Rattle.safl_net.proofs.Growth.{grows_on}
-use Rattle.safl_lower.specs.Sources.{AreSources, Builds}
 use Rattle.safl_lower.specs.Tables.{taken_from}
 use Rattle.safl_lower.specs.Loads.{member_widths}
 use Rattle.safl_lower.proofs.Gathering.{merging_start, merging_step, merging_end, member_in, in_table, call_room, call_bit, call_sized}

@@ -1,10 +1,6 @@
+use Rattle.safl_lower.proofs.Common.{IsSource, Primitive, Sig, Val, Wired, apply_prim, result_width, words}
 use Rattle.std.proofs.Common.{◌≡◌, ℕ, List, IfOk, slice_index_or, sym, ap, subst, ◌∙◌, arith}
-use Rattle.safl_word.specs.declared.primitive.Primitive.{Primitive}
 use Rattle.safl_word.specs.declared.primitive.Primitive.TheVariants.{Ext}
-use Rattle.safl_word.specs.Primitives.{apply_prim, result_width}
-use Rattle.safl_net.specs.declared.cell.Sig.{Sig}
-use Rattle.safl_net.specs.Growth.{Val, Wired, words}
-use Rattle.safl_lower.specs.Sources.{IsSource}
 use Rattle.safl_lower.proofs.Extending.{cell_width, operand}
 use Rattle.safl_lower.proofs.primitives.apply.Goals as goal
 use Rattle.safl_lower.proofs.Building.{builds_within}

@@ -1,9 +1,7 @@
+use Rattle.safl_lower.proofs.Common.{IsSource, Word, width_is}
 use Rattle.std.proofs.Common.{◌≡◌, ℕ, ◌+◌, ◌-◌, [], ◌∷◌, IfOk, sym, ap, subst, ◌∙◌, arith}
-use Rattle.safl_word.specs.Words.{Word}
-use Rattle.safl_net.proofs.Growth.{width_is}
 use Rattle.safl_lower.proofs.Extending.{joined_width, stays_wide, extended}
 use Rattle.safl_lower.proofs.primitives.extend.Goals as goal
-use Rattle.safl_lower.specs.Sources.{IsSource}
 use Rattle.safl_lower.proofs.Building.{source_grown, builds_on}
 use Rattle.safl_lower.proofs.Cells.{two_sources}
 

@@ -1,6 +1,4 @@
-use Rattle.std.proofs.Common.{subst}
-use Rattle.safl_lower.specs.declared.lowered.Readiness.{Readiness}
-use Rattle.safl_lower.specs.Bits.{ReadyAt}
+use Rattle.safl_lower.proofs.Common.{Readiness, ReadyAt, subst}
 use Rattle.safl_lower.proofs.ready.either_ready.Goals as goal
 
 pub returns-in_ok-mux-in-When-When-clause-fits : goal.returns-in_ok-mux-in-When-When-clause-fits

@@ -1,8 +1,4 @@
-use Rattle.std.proofs.Common.{◌*◌, cond, ap, subst, ◌∙◌, arith}
-use Rattle.safl_word.specs.Words.{Word}
-use Rattle.safl_net.specs.Bits.{on}
-use Rattle.safl_net.proofs.Growth.{wired_before}
-use Rattle.safl_lower.specs.declared.resets.Form.{Form}
+use Rattle.safl_lower.proofs.Common.{Form, Word, ap, arith, cond, on, subst, wired_before, ◌*◌, ◌∙◌}
 use Rattle.safl_lower.specs.Resets.{word_or_zero, IsOfForm}
 use Rattle.safl_lower.proofs.Building.{source_kept, builds_on, builds_within}
 use Rattle.safl_lower.proofs.Kept.{shaped_kept}

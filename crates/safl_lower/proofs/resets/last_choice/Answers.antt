@@ -1,8 +1,4 @@
-use Rattle.std.proofs.Common.{cond, ap, sym, ◌∙◌}
-use Rattle.safl_word.specs.Words.{Word}
-use Rattle.safl_net.specs.Bits.{on}
-use Rattle.safl_net.proofs.Growth.{wired_before}
-use Rattle.safl_lower.specs.Resets.{word_or_zero}
+use Rattle.safl_lower.proofs.Common.{Word, ap, cond, on, sym, wired_before, word_or_zero, ◌∙◌}
 use Rattle.safl_lower.proofs.Building.{source_kept, builds_on}
 use Rattle.safl_lower.proofs.Zeroing.{chosen_one}
 use Rattle.safl_lower.proofs.resets.last_choice.Goals as goal

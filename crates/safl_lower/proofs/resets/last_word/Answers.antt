@@ -1,9 +1,5 @@
+use Rattle.safl_lower.proofs.Common.{Load, Sig, on, slice_get_read, word_in, word_or_zero}
 use Rattle.std.proofs.Common.{◌+◌, ◌*◌, length, Option, cond, sym, refl, ap, ◌∙◌, arith}
-use Rattle.std.proofs.lemmas.Option.{slice_get_read}
-use Rattle.safl_net.specs.declared.cell.Sig.{Sig}
-use Rattle.safl_net.specs.Bits.{on}
-use Rattle.safl_lower.specs.declared.loads.Load.{Load}
-use Rattle.safl_lower.specs.Resets.{word_in, word_or_zero}
 use Rattle.safl_lower.proofs.Building.{source_kept, builds_on, builds_within}
 use Rattle.safl_lower.proofs.Joining.{first_fits}
 use Rattle.safl_lower.proofs.Kept.{shaped_kept}

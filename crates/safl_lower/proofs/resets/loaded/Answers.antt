@@ -1,7 +1,4 @@
-use Rattle.std.proofs.Common.{◌+◌, ◌*◌, length, sym, refl, subst, arith}
-use Rattle.std.proofs.lemmas.Option.{slice_get_read}
-use Rattle.safl_net.specs.declared.cell.Sig.{Sig}
-use Rattle.safl_lower.specs.Sources.{IsSource}
+use Rattle.safl_lower.proofs.Common.{IsSource, Sig, arith, length, refl, slice_get_read, subst, sym, ◌*◌, ◌+◌}
 use Rattle.safl_lower.proofs.Building.{source_kept, builds_on, builds_within}
 use Rattle.safl_lower.proofs.Joining.{first_fits}
 use Rattle.safl_lower.proofs.Kept.{shaped_kept}

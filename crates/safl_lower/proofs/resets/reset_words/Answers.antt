@@ -1,15 +1,7 @@
+use Rattle.safl_lower.proofs.Common.{Always, AreSources, Sig, Word, get_index, take_next, unwrap_or, wired_before, word_in, words}
 use Rattle.std.proofs.Common.{ℕ, ◌+◌, ◌*◌, List, [], ◌∷◌, ◌++◌, take, slice_index_or, ap, sym, subst, ◌∙◌, arith}
-use Rattle.std.specs.Option.{unwrap_or}
 use Rattle.std.proofs.lemmas.List.{take_all, length-map}
-use Rattle.safl_word.specs.Words.{Word}
-use Rattle.safl_word.proofs.Lists.{get_index, take_next}
-use Rattle.safl_net.specs.declared.cell.Sig.{Sig}
-use Rattle.safl_net.specs.Growth.{words}
-use Rattle.safl_net.proofs.Growth.{wired_before}
-use Rattle.safl_lower.specs.declared.lowered.Readiness.TheVariants.{Always}
-use Rattle.safl_lower.specs.Sources.{AreSources}
 use Rattle.safl_lower.specs.Tables.{taken_in}
-use Rattle.safl_lower.specs.Resets.{word_in}
 use Rattle.safl_lower.proofs.Building.{source_kept, sources_kept, builds_on, builds_within}
 use Rattle.safl_lower.proofs.KnownLoads.{maybe_load_kept}
 use Rattle.safl_lower.proofs.Cells.{source_at, sources_length, sources_more}

@@ -1,7 +1,5 @@
+use Rattle.safl_lower.proofs.Common.{AreSources, Builds, Val, Wired, unwrap_or, words}
 use Rattle.std.proofs.Common.{◌≡◌, ℕ, ◌*◌, List, take}
-use Rattle.std.specs.Option.{unwrap_or}
-use Rattle.safl_net.specs.Growth.{Val, words, Wired}
-use Rattle.safl_lower.specs.Sources.{AreSources, Builds}
 use Rattle.safl_lower.specs.Tables.{taken_in, FitsIn}
 use Rattle.safl_lower.proofs.resets.reset_words.Given as goal
 

@@ -1,11 +1,5 @@
+use Rattle.safl_lower.proofs.Common.{IsSource, Readiness, ReadyAt, When, Word, on, wired_before}
 use Rattle.std.proofs.Common.{ℕ, cond, sym, ap, subst, ◌∙◌, arith}
-use Rattle.safl_word.specs.Words.{Word}
-use Rattle.safl_net.specs.Bits.{on}
-use Rattle.safl_net.proofs.Growth.{wired_before}
-use Rattle.safl_lower.specs.declared.lowered.Readiness.{Readiness}
-use Rattle.safl_lower.specs.declared.lowered.Readiness.TheVariants.{When}
-use Rattle.safl_lower.specs.Bits.{ReadyAt}
-use Rattle.safl_lower.specs.Sources.{IsSource}
 use Rattle.safl_lower.specs.Resets.{zero_word}
 use Rattle.safl_lower.proofs.Building.{source_kept, builds_on}
 use Rattle.safl_lower.proofs.Zeroing.{when_ready, width_fits, same_width}

@@ -1,7 +1,6 @@
+use Rattle.safl_lower.proofs.Common.{entry_in, slice_get_read}
 use Rattle.std.proofs.Common.{ℕ, suc, ◌+◌, length, take, slice_get, refl, sym, ap, subst, ◌∙◌, add-one, arith}
 use Rattle.std.proofs.lemmas.List.{length-take-le, length_push, take_all}
-use Rattle.std.proofs.lemmas.Option.{slice_get_read}
-use Rattle.safl_lower.specs.Tables.{entry_in}
 use Rattle.safl_lower.specs.Rows.{row_in, row_at, total}
 use Rattle.safl_lower.proofs.Building.{builds_same, builds_on, builds_within}
 use Rattle.safl_lower.proofs.JoinedRows.{total_next, total_front}

@@ -1,5 +1,4 @@
-use Rattle.std.proofs.Common.{◌+◌, length, refl}
-use Rattle.std.proofs.lemmas.Option.{slice_get_read}
+use Rattle.safl_lower.proofs.Common.{length, refl, slice_get_read, ◌+◌}
 use Rattle.safl_lower.specs.Rows.{load_joins}
 use Rattle.safl_lower.proofs.JoinedRows.{row_pushed, total_pushed, loads_longer}
 use Rattle.safl_lower.proofs.rows.push_load.Goals as goal

@@ -1,6 +1,5 @@
+use Rattle.safl_lower.proofs.Common.{Sig, nil_at_end}
 use Rattle.std.proofs.Common.{◌≡◌, ◌==◌, [], ◌++◌, cond, Bool, true, false, List, Option, sym, ap, ◌∙◌}
-use Rattle.safl_word.proofs.Lists.{nil_at_end}
-use Rattle.safl_net.specs.declared.cell.Sig.{Sig}
 use Rattle.safl_lower.specs.Rows.{maybe_one, row_at}
 use Rattle.safl_lower.proofs.rows.push_some.Goals as goal
 

@@ -1,9 +1,7 @@
+use Rattle.safl_lower.proofs.Common.{IsSource, Word, grows_on, width_is}
 use Rattle.std.proofs.Common.{ℕ, ◌<◌, ◌%◌, ◌^◌, [], ◌∷◌, refl, subst, ap, ◌∙◌, arith}
-use Rattle.safl_word.specs.Words.{Word}
-use Rattle.safl_net.proofs.Growth.{grows_on, width_is}
 use Rattle.safl_lower.proofs.Shifting.{compared_width, low_width, cut_value, cut_narrow}
 use Rattle.safl_lower.proofs.shifts.cut_down.Goals as goal
-use Rattle.safl_lower.specs.Sources.{IsSource}
 use Rattle.safl_lower.proofs.Building.{source_grown, builds_on, builds_within}
 use Rattle.safl_lower.proofs.Cells.{one_source, two_sources}
 

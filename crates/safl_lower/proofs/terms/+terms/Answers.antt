@@ -1,22 +1,14 @@
+use Rattle.safl_lower.proofs.Common.{AreSources, LowersAll, Sig, apply_prim, grows_on, nodes, nodes_in, result_width, shown_term}
+use Rattle.safl_lower.proofs.Common.{shown_terms, slice_get_read, smaller_at, take_all, words}
 use Rattle.std.proofs.Common.{rules, ◌≡◌, ℕ, ◌+◌, ◌*◌, ◌<◌, List, ◌++◌, length, drop, suc, Some, refl, sym, ap, subst, ◌∙◌, arith}
-use Rattle.std.proofs.lemmas.Option.{slice_get_read}
-use Rattle.std.proofs.lemmas.List.{take_all}
-use Rattle.safl_word.specs.Primitives.{apply_prim, result_width}
-use Rattle.safl_net.specs.declared.cell.Sig.{Sig}
-use Rattle.safl_net.specs.Growth.{words}
-use Rattle.safl_net.proofs.Growth.{grows_on}
 use Rattle.safl_term.specs.declared.term.Term as declared
 use Rattle.safl_term.specs.Terms.{Terms, Cons}
-use Rattle.safl_term.specs.Tree.{shown_term, shown_terms}
-use Rattle.safl_term.specs.Sizes.{nodes, nodes_in}
-use Rattle.safl_lower.specs.Lowering.{LowersAll}
-use Rattle.safl_lower.specs.Sources.{AreSources}
 use Rattle.safl_lower.proofs.Able
 use Rattle.safl_lower.proofs.Building.{source_grown}
 use Rattle.safl_lower.proofs.Branches.{lowers_let}
 use Rattle.safl_lower.proofs.Kept.{ready_kept, shaped_kept}
 use Rattle.safl_lower.proofs.Leaves.{lowers_const, lowers_var, lowers_op}
-use Rattle.safl_lower.proofs.ListedTerms.{forest_more, forest_at, smaller_at}
+use Rattle.safl_lower.proofs.ListedTerms.{forest_more, forest_at}
 use Rattle.safl_lower.proofs.Lists.{lowers_none, lowers_more}
 use Rattle.safl_lower.proofs.Walk.{able_by, able_all_by, able_in, lowers_by, lowers_in, branches, body_in, done_if, done_call, done_loop}
 use Rattle.safl_lower.proofs.terms.+terms.Goals as goal

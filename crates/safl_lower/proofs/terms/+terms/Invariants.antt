@@ -1,8 +1,5 @@
+use Rattle.safl_lower.proofs.Common.{IsTidy, LowersAll, nodes, nodes_in, shown_term, shown_terms}
 use Rattle.std.proofs.Common.{◌≡◌, ◌+◌, ◌*◌, take}
-use Rattle.safl_net.specs.Names.{IsTidy}
-use Rattle.safl_term.specs.Sizes.{nodes, nodes_in}
-use Rattle.safl_term.specs.Tree.{shown_term, shown_terms}
-use Rattle.safl_lower.specs.Lowering.{LowersAll}
 use Rattle.safl_lower.proofs.terms.+terms.Given as goal
 
 abbrev pub invariant-lower_all-loop-t : goal.invariant-lower_all-loop-t

@@ -1,10 +1,8 @@
+use Rattle.safl_lower.proofs.Common.{Within, on, wired_before}
 use Rattle.std.proofs.Common.{ℕ, ◌-◌, length, Bool, ◌||◌, ◌/◌, sym, ap, subst, ◌∙◌, arith}
-use Rattle.safl_net.proofs.Growth.{wired_before}
-use Rattle.safl_net.specs.Bits.{on}
 use Rattle.safl_lower.specs.Rows.{on_any}
 use Rattle.safl_lower.proofs.Building.{builds_on, builds_within, source_kept}
 use Rattle.safl_lower.proofs.JoinedRows.{whole, low_bits, high_bits, row_kept, any_append}
-use Rattle.safl_lower.specs.Heights.{Within}
 use Rattle.safl_lower.proofs.Heights.{within_kept, alone_within, halved, within_both}
 use Rattle.safl_lower.proofs.trees.+any_of.Goals as goal
 

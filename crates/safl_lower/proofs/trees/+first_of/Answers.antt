@@ -1,15 +1,6 @@
+use Rattle.safl_lower.proofs.Common.{AreSources, Load, Sig, Word, gate, on, option_or, taken, wired_before, words}
 use Rattle.std.proofs.Common.{◌≡◌, ℕ, ◌++◌, List, ◌∷◌, drop, length, slice_index_or, Option, Some}
 use Rattle.std.proofs.Common.{◌/◌, sym, ap, subst, ◌∙◌, arith}
-use Rattle.safl_word.specs.Words.{Word}
-use Rattle.std.specs.Option.{option_or}
-use Rattle.safl_net.specs.declared.cell.Sig.{Sig}
-use Rattle.safl_net.specs.Growth.{words}
-use Rattle.safl_net.proofs.Growth.{wired_before}
-use Rattle.safl_net.specs.Bits.{on}
-use Rattle.safl_net.specs.Bits.{gate}
-use Rattle.safl_lower.specs.declared.loads.Load.{Load}
-use Rattle.safl_lower.specs.Sources.{AreSources}
-use Rattle.safl_lower.specs.Tables.{taken}
 use Rattle.safl_lower.specs.Rows.{first_taken, row_gates}
 use Rattle.safl_lower.proofs.Building.{builds_on, builds_within}
 use Rattle.safl_lower.proofs.Cells.{sources_length}

@@ -1,14 +1,10 @@
+use Rattle.safl_lower.proofs.Common.{IsSource, Sig, Within, on, wired_before}
 use Rattle.std.proofs.Common.{◌≡◌, ℕ, suc, ◌-◌, ◌*◌, ◌++◌, List, [], ◌∷◌, map, length, Bool, ◌&&◌, ◌||◌, not, ◌/◌, sym, ap, subst, ◌∙◌, arith}
 use Rattle.std.proofs.Common.{append_assoc}
 use Rattle.std.proofs.lemmas.List.{length_push, map-append}
-use Rattle.safl_net.specs.declared.cell.Sig.{Sig}
-use Rattle.safl_net.proofs.Growth.{wired_before}
-use Rattle.safl_net.specs.Bits.{on}
-use Rattle.safl_lower.specs.Sources.{IsSource}
 use Rattle.safl_lower.specs.Rows.{AreBits, on_any, frees}
 use Rattle.safl_lower.proofs.Building.{builds_on, builds_within, source_kept}
 use Rattle.safl_lower.proofs.JoinedRows.{whole, low_bits, high_bits, row_kept, bits_push, any_append, frees_append, frees_one}
-use Rattle.safl_lower.specs.Heights.{Within}
 use Rattle.safl_lower.proofs.Joints.{alone_any}
 use Rattle.safl_lower.proofs.Heights.{gate_kept, within_kept, all_kept, halved, within_both, stands_low, stands_high, pushed_within}
 use Rattle.safl_lower.proofs.trees.+free_before.Goals as goal

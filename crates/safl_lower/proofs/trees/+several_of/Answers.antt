@@ -1,9 +1,7 @@
+use Rattle.safl_lower.proofs.Common.{Within, on, wired_before}
 use Rattle.std.proofs.Common.{ℕ, ◌*◌, ◌/◌, ◌++◌, [], ◌∷◌, length, Bool, ◌&&◌, ◌||◌, sym, ap, subst, ◌∙◌, arith}
-use Rattle.safl_net.proofs.Growth.{wired_before}
-use Rattle.safl_net.specs.Bits.{on}
 use Rattle.safl_lower.specs.Tables.{on_in}
 use Rattle.safl_lower.specs.Rows.{on_any, on_two, maybe_one, bit_joins}
-use Rattle.safl_lower.specs.Heights.{Within}
 use Rattle.safl_lower.proofs.Building.{builds_on, builds_within, source_kept}
 use Rattle.safl_lower.proofs.KnownLoads.{maybe_bit_kept}
 use Rattle.safl_lower.proofs.JoinedRows.{whole, low_bits, high_bits, row_kept, any_append, two_append}

@@ -1,12 +1,6 @@
+use Rattle.safl_unit.proofs.Common.{AreBits, Sig, builds_on, builds_within, frees, on, row_at, row_kept, slice_get_read, summed}
 use Rattle.std.proofs.Common.{◌+◌, ◌*◌, List, not, length, refl, sym, ap, subst, ◌∙◌, arith}
-use Rattle.std.proofs.lemmas.Option.{slice_get_read}
-use Rattle.safl_word.specs.Lists.{summed}
 use Rattle.safl_word.proofs.Lists.{summed_more}
-use Rattle.safl_net.specs.declared.cell.Sig.{Sig}
-use Rattle.safl_net.specs.Bits.{on}
-use Rattle.safl_lower.specs.Rows.{AreBits, frees, row_at}
-use Rattle.safl_lower.proofs.Building.{builds_on, builds_within}
-use Rattle.safl_lower.proofs.JoinedRows.{row_kept}
 use Rattle.safl_unit.proofs.equations.Keeping.{pins_kept}
 use Rattle.safl_unit.proofs.equations.Arbiting.{row_there, tally_room, rows_more}
 use Rattle.safl_unit.proofs.arbiters.unit_frees.Goals as goal

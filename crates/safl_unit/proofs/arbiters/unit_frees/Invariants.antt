@@ -1,7 +1,4 @@
-use Rattle.std.proofs.Common.{◌*◌, length}
-use Rattle.safl_word.specs.Lists.{summed}
-use Rattle.safl_lower.specs.Sources.{Builds}
-use Rattle.safl_lower.specs.Rows.{row_at}
+use Rattle.safl_unit.proofs.Common.{Builds, length, row_at, summed, ◌*◌}
 use Rattle.safl_unit.specs.Arbiters.{RowsFree}
 use Rattle.safl_unit.proofs.arbiters.unit_frees.Given as goal
 

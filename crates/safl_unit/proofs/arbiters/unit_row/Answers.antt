@@ -1,12 +1,7 @@
+use Rattle.safl_unit.proofs.Common.{Sig, builds_on, builds_within, frees, on, row_kept, wired_before}
 use Rattle.std.proofs.Common.{suc, ◌+◌, ◌*◌, ◌++◌, List, [], ◌∷◌, Bool, map, length, inl, inr, refl, sym, ap, subst, ◌∙◌, arith}
-use Rattle.safl_net.specs.declared.cell.Sig.{Sig}
-use Rattle.safl_net.proofs.Growth.{wired_before}
-use Rattle.safl_net.specs.Bits.{on}
-use Rattle.safl_lower.specs.Rows.{frees}
 use Rattle.safl_lower.specs.Heights.{AllWithin, Stands}
 use Rattle.safl_lower.proofs.Heights.{all_own, gate_within, within_up}
-use Rattle.safl_lower.proofs.Building.{builds_on, builds_within}
-use Rattle.safl_lower.proofs.JoinedRows.{row_kept}
 use Rattle.safl_unit.proofs.arbiters.unit_row.Goals as goal
 
 pub free_before-requires-clause-bits : goal.free_before-requires-clause-bits

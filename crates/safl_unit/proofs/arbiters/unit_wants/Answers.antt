@@ -1,7 +1,5 @@
+use Rattle.safl_unit.proofs.Common.{Sig, bit_or, unit_for}
 use Rattle.std.proofs.Common.{◌≡◌, ℕ, suc, ◌==◌, List, [], ◌∷◌, ◌++◌, length, length-append, cond, sym, ap, ◌∙◌, add-one, arith}
-use Rattle.safl_term.specs.Program.{unit_for}
-use Rattle.safl_net.specs.declared.cell.Sig.{Sig}
-use Rattle.safl_lower.specs.Tables.{bit_or}
 use Rattle.safl_unit.specs.Arbiters.{want_at, site_row}
 use Rattle.safl_unit.proofs.equations.Indexing.{site_at}
 use Rattle.safl_unit.proofs.equations.Arbiting.{row_zero, row_next, no_rank, more_ranks, row_there}

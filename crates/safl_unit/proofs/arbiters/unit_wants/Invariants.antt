@@ -1,6 +1,5 @@
+use Rattle.safl_unit.proofs.Common.{row_at, unit_for}
 use Rattle.std.proofs.Common.{◌≡◌, ℕ, suc, length, Some, slice_get}
-use Rattle.safl_term.specs.Program.{unit_for}
-use Rattle.safl_lower.specs.Rows.{row_at}
 use Rattle.safl_unit.specs.Arbiters.{site_row}
 use Rattle.safl_unit.proofs.arbiters.unit_wants.Given as goal
 

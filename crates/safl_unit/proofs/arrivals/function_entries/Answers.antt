@@ -1,8 +1,5 @@
+use Rattle.safl_unit.proofs.Common.{Val, builds_on, builds_same, builds_within, maybe_bit_kept, on_in, taken_from}
 use Rattle.std.proofs.Common.{◌≡◌, ℕ, ◌==◌, ◌&&◌, ◌||◌, is_some, refl, subst, arith}
-use Rattle.safl_net.specs.Growth.{Val}
-use Rattle.safl_lower.specs.Tables.{taken_from, on_in}
-use Rattle.safl_lower.proofs.Building.{builds_same, builds_on, builds_within}
-use Rattle.safl_lower.proofs.KnownLoads.{maybe_bit_kept}
 use Rattle.safl_unit.specs.Edges.{one_below, ShowsBits}
 use Rattle.safl_unit.proofs.equations.Chains.{bits_of_loads, start_bits, more_bits, loop_there, loop_fits, loop_shown}
 use Rattle.safl_unit.proofs.arrivals.function_entries.Goals as goal

@@ -1,6 +1,4 @@
-use Rattle.std.proofs.Common.{◌==◌, ◌&&◌, ◌||◌, is_some}
-use Rattle.safl_lower.specs.Sources.{Builds}
-use Rattle.safl_lower.specs.Tables.{taken_from}
+use Rattle.safl_unit.proofs.Common.{Builds, is_some, taken_from, ◌&&◌, ◌==◌, ◌||◌}
 use Rattle.safl_unit.specs.Edges.{one_below, ShowsBits}
 use Rattle.safl_unit.proofs.arrivals.function_entries.Given as goal
 

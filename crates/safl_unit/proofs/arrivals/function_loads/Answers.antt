@@ -1,14 +1,7 @@
+use Rattle.safl_unit.proofs.Common.{Load, ShowsLoads, Sig, Val, builds_same, builds_within, gate, on, operands_in, pin, total_bare}
 use Rattle.std.proofs.Common.{◌≡◌, ℕ, suc, ◌+◌, ◌*◌, ◌==◌, ◌&&◌, List, length, Vec, Global, slice_get, refl, sym, ap, subst, ◌∙◌, arith}
 use Rattle.safl_calls.specs.Picks.{first}
-use Rattle.safl_net.specs.declared.cell.Sig.{Sig}
-use Rattle.safl_net.specs.Growth.{Val}
-use Rattle.safl_net.specs.Bits.{on, gate}
-use Rattle.safl_lower.specs.Tables.{pin}
-use Rattle.safl_lower.specs.declared.loads.Load.{Load}
 use Rattle.safl_lower.specs.Rows.{load_joins, total, RowsFit}
-use Rattle.safl_lower.proofs.Building.{builds_same, builds_within}
-use Rattle.safl_lower.proofs.JoinedRows.{total_bare}
-use Rattle.safl_unit.specs.Edges.{operands_in, ShowsLoads}
 use Rattle.safl_unit.proofs.equations.Chains.{LoadRows, bare_load_rows, more_load_rows, joined_loads, load_fits, taken_shown, operands_fit, want_there, want_shown}
 use Rattle.safl_unit.proofs.arrivals.function_loads.Goals as goal
 

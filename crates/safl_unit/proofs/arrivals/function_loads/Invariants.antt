@@ -1,9 +1,5 @@
-use Rattle.std.proofs.Common.{◌≤◌, ◌*◌, ◌==◌, ◌&&◌, slice_get}
+use Rattle.safl_unit.proofs.Common.{gate, load_joins, on, operands_in, pin, slice_get, total, ◌&&◌, ◌*◌, ◌==◌, ◌≤◌}
 use Rattle.safl_calls.specs.Picks.{first}
-use Rattle.safl_net.specs.Bits.{on, gate}
-use Rattle.safl_lower.specs.Tables.{pin}
-use Rattle.safl_lower.specs.Rows.{load_joins, total}
-use Rattle.safl_unit.specs.Edges.{operands_in}
 use Rattle.safl_unit.proofs.equations.Chains.{LoadRows}
 use Rattle.safl_unit.proofs.arrivals.function_loads.Given as goal
 

@@ -1,9 +1,5 @@
+use Rattle.safl_unit.proofs.Common.{Load, Sig, bit_of, slice_get_read, take_all}
 use Rattle.std.proofs.Common.{ℕ, ◌<◌, List, [], ◌∷◌, ◌++◌, length, map, take, Option, refl, sym, ap, ◌∙◌, add-one, arith}
-use Rattle.std.proofs.lemmas.List.{take_all}
-use Rattle.std.proofs.lemmas.Option.{slice_get_read}
-use Rattle.safl_net.specs.declared.cell.Sig.{Sig}
-use Rattle.safl_lower.specs.declared.loads.Load.{Load}
-use Rattle.safl_unit.specs.Edges.{bit_of}
 use Rattle.safl_unit.proofs.equations.Chains.{bits_next}
 use Rattle.safl_unit.proofs.arrivals.load_bits.Goals as goal
 

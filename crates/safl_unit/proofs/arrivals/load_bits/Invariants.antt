@@ -1,5 +1,4 @@
-use Rattle.std.proofs.Common.{◌≡◌, map, take}
-use Rattle.safl_unit.specs.Edges.{bit_of}
+use Rattle.safl_unit.proofs.Common.{bit_of, map, take, ◌≡◌}
 use Rattle.safl_unit.proofs.arrivals.load_bits.Given as goal
 
 abbrev pub invariant-loop-i : goal.invariant-loop-i

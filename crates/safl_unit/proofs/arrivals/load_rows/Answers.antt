@@ -1,12 +1,6 @@
+use Rattle.safl_unit.proofs.Common.{Load, Sig, bit_of, entry_in, maybe_one, row_at, slice_get_read, take_suc}
 use Rattle.std.proofs.Common.{ℕ, ◌<◌, List, length, take, Option, Vec, Global, slice_get, refl, sym, ap, ◌∙◌, add-one, arith}
 use Rattle.std.proofs.lemmas.List.{length-take-le, length_push, take_all}
-use Rattle.std.proofs.lemmas.Option.{slice_get_read}
-use Rattle.safl_word.proofs.Lists.{take_suc}
-use Rattle.safl_net.specs.declared.cell.Sig.{Sig}
-use Rattle.safl_lower.specs.declared.loads.Load.{Load}
-use Rattle.safl_lower.specs.Tables.{load_in}
-use Rattle.safl_lower.specs.Rows.{maybe_one, row_at}
-use Rattle.safl_unit.specs.Edges.{bit_of}
 use Rattle.safl_unit.proofs.equations.Chains.{load_rows_more}
 use Rattle.safl_unit.proofs.arrivals.load_rows.Goals as goal
 
@@ -32,7 +26,7 @@ loop-i-preserved c =
       rows = λ j.
           ap (λ (t : List (Vec Sig Global)). row_at t j) c.in_ok-push.ensures.items
           ∙ load_rows_more c.loop-i.rows.items (take i xs) c.in_ok-row.row x (count ∙ sym long) c.loop-i.invariant.rows (c.in_ok-row.ensures.bit ∙ ap maybe_one c.load_bit-bit.ensures) j
-          ∙ ap (λ (t : List (Option Load)). maybe_one (bit_of (load_in (slice_get t j)))) (sym (take_suc xs i x at) ∙ ap (λ (m : ℕ). take m xs) (sym (add-one i)));
+          ∙ ap (λ (t : List (Option Load)). maybe_one (bit_of (entry_in (slice_get t j)))) (sym (take_suc xs i x at) ∙ ap (λ (m : ℕ). take m xs) (sym (add-one i)));
     }
 
 pub returns-clause-count : goal.returns-clause-count
@@ -46,4 +40,4 @@ pub returns-clause-rows : goal.returns-clause-rows
 returns-clause-rows c = λ j.
     let l = c.loop-i-test.false in
     let n = c.requires in
-    c.loop-i.invariant.rows j ∙ ap (λ (t : List (Option Load)). maybe_one (bit_of (load_in (slice_get t j)))) (take_all c.loop-i.i c.args.loads.now (omega (arith, l, n)))
+    c.loop-i.invariant.rows j ∙ ap (λ (t : List (Option Load)). maybe_one (bit_of (entry_in (slice_get t j)))) (take_all c.loop-i.i c.args.loads.now (omega (arith, l, n)))

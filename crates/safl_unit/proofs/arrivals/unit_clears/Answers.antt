@@ -1,9 +1,5 @@
+use Rattle.safl_unit.proofs.Common.{RowsAreBits, Sig, Val, bit_joins, builds_within, entry_in, taken_from, total}
 use Rattle.std.proofs.Common.{◌≡◌, ℕ, ◌==◌, ◌&&◌, ◌||◌, List, Vec, Global, is_some, slice_get, sym, ap, subst, ◌∙◌, arith}
-use Rattle.safl_net.specs.declared.cell.Sig.{Sig}
-use Rattle.safl_net.specs.Growth.{Val}
-use Rattle.safl_lower.specs.Tables.{load_in, taken_from}
-use Rattle.safl_lower.specs.Rows.{bit_joins, total, RowsAreBits}
-use Rattle.safl_lower.proofs.Building.{builds_within}
 use Rattle.safl_unit.specs.Edges.{one_below, bit_of, ShowsBits}
 use Rattle.safl_unit.proofs.equations.Chains.{BitRows, load_rows_total, start_load_rows, more_some_rows, joined_bits, loop_there, loop_fits, loop_shown}
 use Rattle.safl_unit.proofs.arrivals.unit_clears.Goals as goal
@@ -13,7 +9,7 @@ loop-h-init c =
     let C = c.args.p.now.program in
     let xs = c.args.ends.now in
     let rows = c.in_ok-rows.rows.items in
-    let none = load_rows_total rows (λ (i : ℕ). bit_of (load_in (slice_get xs i))) c.in_ok-rows.ensures.rows in
+    let none = load_rows_total rows (λ (i : ℕ). bit_of (entry_in (slice_get xs i))) c.in_ok-rows.ensures.rows in
     record {
       gates = omega (arith, none);
       table = start_load_rows c.args.net.now rows xs C.functions c.requires.ends.0

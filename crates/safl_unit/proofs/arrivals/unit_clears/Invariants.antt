@@ -1,6 +1,4 @@
-use Rattle.std.proofs.Common.{◌≤◌, ◌==◌, ◌&&◌, ◌||◌, is_some}
-use Rattle.safl_lower.specs.Tables.{taken_from}
-use Rattle.safl_lower.specs.Rows.{bit_joins, total}
+use Rattle.safl_unit.proofs.Common.{bit_joins, is_some, taken_from, total, ◌&&◌, ◌==◌, ◌||◌, ◌≤◌}
 use Rattle.safl_unit.specs.Edges.{one_below}
 use Rattle.safl_unit.proofs.equations.Chains.{BitRows}
 use Rattle.safl_unit.proofs.arrivals.unit_clears.Given as goal

@@ -1,8 +1,6 @@
+use Rattle.safl_unit.proofs.Common.{gate, load_joins, taken_at, total}
 use Rattle.std.proofs.Common.{◌≤◌, ◌*◌, ◌==◌, [], ◌∷◌}
 use Rattle.safl_calls.specs.Picks.{first}
-use Rattle.safl_net.specs.Bits.{gate}
-use Rattle.safl_lower.specs.Tables.{taken_at}
-use Rattle.safl_lower.specs.Rows.{load_joins, total}
 use Rattle.safl_unit.proofs.equations.Chains.{LoadRows}
 use Rattle.safl_unit.proofs.arrivals.unit_ends.Given as goal
 

@@ -1,12 +1,5 @@
+use Rattle.safl_unit.proofs.Common.{RowsAreBits, Sig, Val, bit_joins, builds_within, on, pin, total, total_bare, unit_for}
 use Rattle.std.proofs.Common.{◌≡◌, ℕ, suc, ◌+◌, ◌==◌, ◌&&◌, List, Vec, Global, refl, sym, ap, subst, ◌∙◌, arith}
-use Rattle.safl_term.specs.Program.{unit_for}
-use Rattle.safl_net.specs.declared.cell.Sig.{Sig}
-use Rattle.safl_net.specs.Growth.{Val}
-use Rattle.safl_net.specs.Bits.{on}
-use Rattle.safl_lower.specs.Tables.{pin}
-use Rattle.safl_lower.specs.Rows.{bit_joins, total, RowsAreBits}
-use Rattle.safl_lower.proofs.Building.{builds_within}
-use Rattle.safl_lower.proofs.JoinedRows.{total_bare}
 use Rattle.safl_unit.specs.Edges.{one_below, ShowsBits}
 use Rattle.safl_unit.proofs.equations.Chains.{BitRows, bare_bit_rows, more_bit_rows, joined_bits}
 use Rattle.safl_unit.proofs.arrivals.unit_starts.Goals as goal

@@ -1,8 +1,4 @@
-use Rattle.std.proofs.Common.{◌≤◌, ◌==◌, ◌&&◌}
-use Rattle.safl_term.specs.Program.{unit_for}
-use Rattle.safl_net.specs.Bits.{on}
-use Rattle.safl_lower.specs.Tables.{pin}
-use Rattle.safl_lower.specs.Rows.{bit_joins, total}
+use Rattle.safl_unit.proofs.Common.{bit_joins, on, pin, total, unit_for, ◌&&◌, ◌==◌, ◌≤◌}
 use Rattle.safl_unit.specs.Edges.{one_below}
 use Rattle.safl_unit.proofs.equations.Chains.{BitRows}
 use Rattle.safl_unit.proofs.arrivals.unit_starts.Given as goal

@@ -1,12 +1,7 @@
+use Rattle.safl_unit.proofs.Common.{CheckedProgram, InEachCycle, IsChecked, Ports, SitePorts, on, slice_get_read}
 use Rattle.std.proofs.Common.{◌≡◌, List, IfOk, length, refl, sym, subst, ◌∙◌, arith}
-use Rattle.std.proofs.lemmas.Option.{slice_get_read}
-use Rattle.safl_term.specs.Checked.{CheckedProgram, IsChecked}
-use Rattle.safl_lower.specs.declared.lowered.SitePorts.{SitePorts}
-use Rattle.safl_lower.specs.declared.lowered.Ports.{Ports}
 use Rattle.safl_lower.specs.Bodies.{CanLower, IsLowered}
-use Rattle.safl_net.specs.Bits.{on}
 use Rattle.safl_circuit.specs.Equations.{path}
-use Rattle.safl_unit.specs.Cycles.{InEachCycle}
 use Rattle.safl_unit.specs.Outcomes.{AreOwnPorts}
 use Rattle.safl_unit.proofs.equations.Lowered.{body_able, all_built, all_has}
 use Rattle.safl_unit.proofs.bodies.body_of.Goals as goal

@@ -1,8 +1,5 @@
+use Rattle.safl_unit.proofs.Common.{IfOk-weaker, many, on, slice_get_read}
 use Rattle.std.proofs.Common.{◌≡◌, length, Bool, true, false, not, ◌&&◌, ◌||◌, refl, sym, ap, ◌∙◌, arith}
-use Rattle.std.proofs.lemmas.Option.{slice_get_read}
-use Rattle.std.proofs.lemmas.Result.{IfOk-weaker}
-use Rattle.safl_net.specs.Bits.{on}
-use Rattle.safl_circuit.specs.Equations.{many}
 use Rattle.safl_unit.proofs.equations.Keeping.{cycle_before}
 use Rattle.safl_unit.proofs.bodies.body_path.Goals as goal
 

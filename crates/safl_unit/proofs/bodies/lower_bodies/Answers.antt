@@ -1,14 +1,8 @@
+use Rattle.safl_unit.proofs.Common.{CheckedProgram, Gathered, IsChecked, IsFirstOf, Load, Outcomes, PushesLoads, entry_in}
 use Rattle.std.proofs.Common.{◌≡◌, ℕ, slice_get, ◌<◌, List, Vec, Global, length, refl, subst, sym, ap, ◌∙◌, arith}
-use Rattle.safl_term.specs.Checked.{CheckedProgram, IsChecked}
-use Rattle.safl_lower.specs.declared.loads.Load.{Load}
 use Rattle.safl_lower.specs.Rows.{load_joins, total, row_at, RowsFit}
-use Rattle.safl_lower.specs.Tables.{load_in}
-use Rattle.safl_lower.specs.Joints.{IsFirstOf}
 use Rattle.safl_lower.proofs.Building.{builds_same, builds_on, builds_within}
-use Rattle.safl_unit.specs.declared.pins.Outcomes.{Outcomes}
-use Rattle.safl_unit.specs.declared.bodies.Gathered.{Gathered}
 use Rattle.safl_term.specs.Sizes.{body_nodes}
-use Rattle.safl_unit.specs.Outcomes.{PushesLoads}
 use Rattle.safl_unit.proofs.equations.Keeping.{pins_kept, returns_kept}
 use Rattle.safl_term.proofs.HeldByChecked.{nodes_within}
 use Rattle.safl_unit.proofs.equations.Joins.{nodes_next}
@@ -118,4 +112,4 @@ returns-clause-done c =
     all_outcomes c.args.p.now.checked c.args.p.now.choice c.loop-f.net c.join_loads.new.net _ c.args.pins.now c.loop-f.f c.loop-f.all q e c.loop-f.invariant.done joined.built refl refl
     (joined.count ∙ ap (λ (rows : List (Vec Load Global)). length rows) d)
     (joined.fits ws (subst (λ (rows : List (Vec Load Global)). RowsFit c.loop-f.net rows ws) (sym d) c.loop-f.invariant.done.loops))
-    (subst (λ (rows : List (Vec Load Global)). (i : ℕ) → IsFirstOf c.join_loads.new.net (row_at rows i) (load_in (slice_get c.in_ok-loops.loops.items i))) d joined.joined)
+    (subst (λ (rows : List (Vec Load Global)). (i : ℕ) → IsFirstOf c.join_loads.new.net (row_at rows i) (entry_in (slice_get c.in_ok-loops.loops.items i))) d joined.joined)

@@ -1,6 +1,5 @@
-use Rattle.std.proofs.Common.{◌+◌, ◌*◌}
+use Rattle.safl_unit.proofs.Common.{Builds, ◌*◌, ◌+◌}
 use Rattle.safl_term.specs.Sizes.{body_nodes}
-use Rattle.safl_lower.specs.Sources.{Builds}
 use Rattle.safl_unit.proofs.equations.Outcoming.{OutcomesUpTo}
 use Rattle.safl_unit.proofs.bodies.lower_bodies.Given as goal
 

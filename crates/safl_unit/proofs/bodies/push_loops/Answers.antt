@@ -1,10 +1,7 @@
+use Rattle.safl_unit.proofs.Common.{Load, PushesLoads, load_joins, loads_cost, maybe_load, row_at, total}
 use Rattle.std.proofs.Common.{ℕ, ◌+◌, ◌++◌, ◌∷◌, [], ◌≤◌, ◌==◌, cond, List, Option, length, length-append, map-id, rules, refl, sym, ap, subst, ◌∙◌, arith}
 use Rattle.std.proofs.lemmas.Iterator.Consumers.{YieldsList-turn, YieldsList-end}
 use Rattle.std.proofs.lemmas.Iterator.Adapters.{YieldsList-from_vec}
-use Rattle.safl_lower.specs.declared.loads.Load.{Load}
-use Rattle.safl_lower.specs.Rows.{load_joins, row_at, total}
-use Rattle.safl_lower.specs.Loads.{loads_cost}
-use Rattle.safl_unit.specs.Outcomes.{PushesLoads, maybe_load}
 use Rattle.safl_unit.proofs.equations.Joins.{cost_end, none_pushed, more_pushed}
 use Rattle.safl_unit.proofs.bodies.push_loops.Goals as goal
 

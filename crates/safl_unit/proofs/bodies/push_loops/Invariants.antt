@@ -1,7 +1,4 @@
-use Rattle.std.proofs.Common.{◌≡◌, ◌+◌, ◌≤◌, length}
-use Rattle.safl_lower.specs.Rows.{load_joins, total}
-use Rattle.safl_lower.specs.Loads.{loads_cost}
-use Rattle.safl_unit.specs.Outcomes.{PushesLoads}
+use Rattle.safl_unit.proofs.Common.{PushesLoads, length, load_joins, loads_cost, total, ◌+◌, ◌≡◌, ◌≤◌}
 use Rattle.safl_unit.proofs.bodies.push_loops.Given as goal
 
 abbrev pub invariant-loop-load : goal.invariant-loop-load

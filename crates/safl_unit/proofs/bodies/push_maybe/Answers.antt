@@ -1,8 +1,5 @@
+use Rattle.safl_unit.proofs.Common.{Load, maybe_load, nil_at_end, row_at}
 use Rattle.std.proofs.Common.{◌≡◌, ◌==◌, [], ◌++◌, cond, Bool, true, false, List, Option, sym, ap, ◌∙◌}
-use Rattle.safl_word.proofs.Lists.{nil_at_end}
-use Rattle.safl_lower.specs.declared.loads.Load.{Load}
-use Rattle.safl_lower.specs.Rows.{row_at}
-use Rattle.safl_unit.specs.Outcomes.{maybe_load}
 use Rattle.safl_unit.proofs.bodies.push_maybe.Goals as goal
 
 nothing : (xs : List Load) (t : Bool) → xs ≡ xs ++ cond t [] []

@@ -1,9 +1,5 @@
-use Rattle.std.proofs.Common.{◌+◌, ◌*◌, length, sym, ap, subst, arith}
+use Rattle.safl_unit.proofs.Common.{Grows, HasGoes, Netlist, ap, arith, builds_on, length, subst, sym, ◌*◌, ◌+◌}
 use Rattle.safl_term.specs.Sizes.{body_nodes}
-use Rattle.safl_net.specs.Netlist.{Netlist}
-use Rattle.safl_net.specs.Growth.{Grows}
-use Rattle.safl_lower.proofs.Building.{builds_on}
-use Rattle.safl_unit.specs.Stages.{HasGoes}
 use Rattle.safl_unit.proofs.equations.Keeping.{pins_kept, bank_kept, returns_kept, outcomes_kept, goes_kept, next_kept}
 use Rattle.safl_unit.proofs.layout.Counting.{declared_few, room_for}
 use Rattle.safl_unit.proofs.assembly.Scheming.{finished_scheme, finished_plan, finished_count}
@@ -128,7 +124,7 @@ edge-requires-clause-room c =
       tidy = c.in_ok-goes.ensures.built.tidy;
       room =
           room_for c.args.p.now.checked h P c.in_ok-declared.declared.net c.grants.new.net
-          ((5 * C.sites + (33 * body_nodes C C.functions + 33 * C.functions)) + (5 * C.sites + 2)) (1035 * C.functions + 32 * C.sites + 32) d
+          ((5 * C.sites + (33 * body_nodes C C.functions + 33 * C.functions)) + (5 * C.sites + 2)) (1024 * C.functions + 32 * C.sites + 32) d
           (builds_on (builds_on c.in_ok-shown.ensures.built c.in_ok-outcomes.ensures.built) (c.in_ok-goes.ensures.built)).count (omega (arith, f, s, m));
     }
 
@@ -147,7 +143,7 @@ controls-requires c =
         tidy = c.in_ok-next.ensures.built.tidy;
         room =
             room_for c.args.p.now.checked h P c.in_ok-declared.declared.net c.edge.new.net
-            (((5 * C.sites + (33 * body_nodes C C.functions + 33 * C.functions)) + (5 * C.sites + 2)) + (1035 * C.functions + 32 * C.sites + 32)) (1) d
+            (((5 * C.sites + (33 * body_nodes C C.functions + 33 * C.functions)) + (5 * C.sites + 2)) + (1024 * C.functions + 32 * C.sites + 32)) (1) d
             (builds_on (builds_on (builds_on c.in_ok-shown.ensures.built c.in_ok-outcomes.ensures.built) (c.in_ok-goes.ensures.built))
             (c.in_ok-next.ensures.built)).count (omega (arith, f, s, m));
       };
@@ -166,7 +162,7 @@ finish-requires-clause-room c =
       tidy = c.in_ok-copied.ensures.built.tidy;
       room =
           room_for c.args.p.now.checked h P c.in_ok-declared.declared.net c.controls.new.net
-          ((((5 * C.sites + (33 * body_nodes C C.functions + 33 * C.functions)) + (5 * C.sites + 2)) + (1035 * C.functions + 32 * C.sites + 32)) + 1) (0)
+          ((((5 * C.sites + (33 * body_nodes C C.functions + 33 * C.functions)) + (5 * C.sites + 2)) + (1024 * C.functions + 32 * C.sites + 32)) + 1) (0)
           d (builds_on (builds_on (builds_on (builds_on c.in_ok-shown.ensures.built c.in_ok-outcomes.ensures.built) (c.in_ok-goes.ensures.built))
           (c.in_ok-next.ensures.built)) (c.in_ok-copied.ensures.built)).count (omega (arith, f, s, m));
     }

@@ -1,5 +1,4 @@
-use Rattle.std.proofs.Common.{◌≡◌, map, take}
-use Rattle.safl_lower.specs.Tables.{load_bit}
+use Rattle.safl_unit.proofs.Common.{load_bit, map, take, ◌≡◌}
 use Rattle.safl_unit.proofs.controls.bits_of.Given as goal
 
 abbrev pub invariant-loop-load : goal.invariant-loop-load

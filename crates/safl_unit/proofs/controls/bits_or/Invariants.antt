@@ -1,5 +1,4 @@
-use Rattle.std.proofs.Common.{◌≡◌, map, take}
-use Rattle.safl_lower.specs.Tables.{bit_or}
+use Rattle.safl_unit.proofs.Common.{bit_or, map, take, ◌≡◌}
 use Rattle.safl_unit.proofs.controls.bits_or.Given as goal
 
 abbrev pub invariant-loop-load : goal.invariant-loop-load

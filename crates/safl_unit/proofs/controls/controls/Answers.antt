@@ -1,6 +1,4 @@
-use Rattle.std.proofs.Common.{List, Option, map, ap, ◌∙◌}
-use Rattle.safl_lower.specs.declared.loads.Load.{Load}
-use Rattle.safl_lower.specs.Tables.{load_bit, bit_or}
+use Rattle.safl_unit.proofs.Common.{List, Load, Option, ap, bit_or, load_bit, map, ◌∙◌}
 use Rattle.safl_unit.proofs.equations.Controlling.{has_controls}
 use Rattle.safl_unit.proofs.controls.controls.Goals as goal
 

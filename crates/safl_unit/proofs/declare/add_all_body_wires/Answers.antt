@@ -1,6 +1,5 @@
-use Rattle.std.proofs.Common.{arith}
+use Rattle.safl_unit.proofs.Common.{arith, open_wire}
 use Rattle.safl_circuit.specs.Layout.{lines, function_wires}
-use Rattle.safl_unit.specs.Finished.{open_wire}
 use Rattle.safl_unit.proofs.layout.Declaring.{lines_count}
 use Rattle.safl_unit.proofs.layout.Pinning.{lines_start, lines_next, body_wires_count}
 use Rattle.safl_unit.proofs.layout.Adding.{lines_at}

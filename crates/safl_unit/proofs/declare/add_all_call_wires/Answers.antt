@@ -1,7 +1,5 @@
-use Rattle.std.proofs.Common.{suc, ◌∙◌, refl, ap, arith}
-use Rattle.safl_term.specs.Checked.{CheckedProgram}
+use Rattle.safl_unit.proofs.Common.{CheckedProgram, ap, arith, open_wire, refl, suc, ◌∙◌}
 use Rattle.safl_circuit.specs.Layout.{lines, site_wires}
-use Rattle.safl_unit.specs.Finished.{open_wire}
 use Rattle.safl_unit.proofs.layout.Declaring.{lines_count}
 use Rattle.safl_unit.proofs.layout.Pinning.{lines_from_one, lines_next, few_calls}
 use Rattle.safl_unit.proofs.layout.Adding.{lines_at}

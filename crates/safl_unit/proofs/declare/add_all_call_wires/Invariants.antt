@@ -1,7 +1,5 @@
-use Rattle.std.proofs.Common.{◌≡◌, map}
+use Rattle.safl_unit.proofs.Common.{map, open_wire, with_signals, ◌≡◌}
 use Rattle.safl_circuit.specs.Layout.{lines, site_wires}
-use Rattle.safl_unit.specs.Finished.{open_wire}
-use Rattle.safl_unit.specs.Declaring.{with_signals}
 use Rattle.safl_unit.proofs.declare.add_all_call_wires.Given as goal
 
 abbrev pub invariant-loop-k : goal.invariant-loop-k

@@ -1,10 +1,6 @@
+use Rattle.safl_unit.proofs.Common.{Line, codes, of_site, open_wire, unit_for}
 use Rattle.std.proofs.Common.{◌≡◌, [], ◌∷◌, true, ◌∙◌}
-use Rattle.std.specs.Prelude.{codes}
-use Rattle.safl_circuit.specs.Names.{of_site}
-use Rattle.safl_unit.specs.Finished.{open_wire}
 use Rattle.safl_unit.proofs.layout.Adding.{named_so, may_now, lines_if}
-use Rattle.safl_term.specs.Program.{unit_for}
-use Rattle.safl_circuit.specs.Layout.{Line}
 use Rattle.safl_unit.proofs.declare.add_arbiter_wire.Goals as goal
 
 pub add_wire-requires-clause-free : goal.add_wire-requires-clause-free

@@ -1,10 +1,5 @@
+use Rattle.safl_unit.proofs.Common.{argument_lines, codes, get_map, of_param, open_register, take_all, with_signals}
 use Rattle.std.proofs.Common.{◌≡◌, ◌++◌, [], ◌∷◌, List, ℕ, map, length, ap, ◌∙◌, arith}
-use Rattle.std.specs.Prelude.{codes}
-use Rattle.std.proofs.lemmas.List.{take_all}
-use Rattle.safl_word.proofs.Lists.{get_map}
-use Rattle.safl_circuit.specs.Names.{of_param}
-use Rattle.safl_unit.specs.Finished.{open_register}
-use Rattle.safl_unit.specs.Declaring.{with_signals, argument_lines}
 use Rattle.safl_unit.proofs.layout.Declaring.{name_text, param_text, param_step, param_count, numbered_next, param_lines_long, named_get}
 use Rattle.safl_unit.proofs.layout.Adding.{named_so, line_at}
 use Rattle.safl_unit.proofs.declare.add_arguments.Goals as goal

@@ -1,7 +1,4 @@
-use Rattle.std.proofs.Common.{◌≡◌, map, take, length}
-use Rattle.safl_unit.specs.Ties.{numbered}
-use Rattle.safl_unit.specs.Finished.{open_register}
-use Rattle.safl_unit.specs.Declaring.{with_signals, argument_lines}
+use Rattle.safl_unit.proofs.Common.{argument_lines, length, map, numbered, open_register, take, with_signals, ◌≡◌}
 use Rattle.safl_unit.proofs.declare.add_arguments.Given as goal
 
 abbrev pub invariant-loop-i : goal.invariant-loop-i

@@ -1,9 +1,5 @@
+use Rattle.safl_unit.proofs.Common.{Line, codes, many, of_function, open_register}
 use Rattle.std.proofs.Common.{◌≡◌, ◌++◌, [], ◌∷◌, List, ℕ, true, ap, ◌∙◌}
-use Rattle.std.specs.Prelude.{codes}
-use Rattle.safl_circuit.specs.Equations.{many}
-use Rattle.safl_circuit.specs.Names.{of_function}
-use Rattle.safl_circuit.specs.Layout.{Line}
-use Rattle.safl_unit.specs.Finished.{open_register}
 use Rattle.safl_unit.proofs.layout.Declaring.{name_text}
 use Rattle.safl_unit.proofs.layout.Adding.{named_so, may_now, lines_if}
 use Rattle.safl_unit.proofs.declare.add_at.Goals as goal

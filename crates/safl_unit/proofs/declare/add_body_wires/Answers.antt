@@ -1,7 +1,5 @@
+use Rattle.safl_unit.proofs.Common.{codes, of_function, open_wire}
 use Rattle.std.proofs.Common.{◌≡◌, ◌++◌, [], ◌∷◌, List, ℕ, ap, ◌∙◌}
-use Rattle.std.specs.Prelude.{codes}
-use Rattle.safl_circuit.specs.Names.{of_function}
-use Rattle.safl_unit.specs.Finished.{open_wire}
 use Rattle.safl_unit.proofs.layout.Adding.{named_so, may_now, may_step}
 use Rattle.safl_unit.proofs.layout.Declaring.{name_text}
 use Rattle.safl_unit.proofs.declare.add_body_wires.Goals as goal

@@ -1,7 +1,5 @@
+use Rattle.safl_unit.proofs.Common.{codes, of_site, open_wire}
 use Rattle.std.proofs.Common.{◌≡◌, ◌++◌, [], ◌∷◌, map, ◌∙◌}
-use Rattle.std.specs.Prelude.{codes}
-use Rattle.safl_circuit.specs.Names.{of_site}
-use Rattle.safl_unit.specs.Finished.{open_wire}
 use Rattle.safl_unit.proofs.layout.Adding.{named_so, may_now, may_step, may_call, lines_first, lines_rest}
 use Rattle.safl_unit.specs.Declaring.{arbiter_line}
 use Rattle.safl_unit.proofs.declare.add_call_wires.Goals as goal

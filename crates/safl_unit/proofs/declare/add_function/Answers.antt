@@ -1,6 +1,4 @@
-use Rattle.safl_unit.specs.Finished.{open_register}
-use Rattle.safl_unit.specs.Declaring.{unit_head, at_line, argument_lines}
-use Rattle.std.proofs.Common.{◌++◌}
+use Rattle.safl_unit.proofs.Common.{argument_lines, at_line, open_register, unit_head, ◌++◌}
 use Rattle.safl_unit.proofs.layout.Adding.{lines_first, lines_rest}
 use Rattle.safl_unit.proofs.layout.Pinning.{pinned}
 use Rattle.safl_unit.proofs.declare.add_function.Goals as goal

@@ -1,7 +1,5 @@
-use Rattle.std.proofs.Common.{arith}
+use Rattle.safl_unit.proofs.Common.{arith, function_lines, open_register}
 use Rattle.safl_circuit.specs.Layout.{lines}
-use Rattle.safl_unit.specs.Finished.{open_register}
-use Rattle.safl_unit.specs.Declaring.{function_lines}
 use Rattle.safl_unit.proofs.layout.Declaring.{lines_count}
 use Rattle.safl_unit.proofs.layout.Pinning.{lines_start, lines_next, none_pinned_at, more_pinned_at, functions_count}
 use Rattle.safl_unit.proofs.layout.Adding.{lines_at}

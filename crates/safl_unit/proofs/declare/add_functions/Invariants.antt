@@ -1,6 +1,5 @@
-use Rattle.std.proofs.Common.{◌≡◌, map, length}
+use Rattle.safl_unit.proofs.Common.{length, map, open_register, ◌≡◌}
 use Rattle.safl_circuit.specs.Layout.{lines}
-use Rattle.safl_unit.specs.Finished.{open_register}
 use Rattle.safl_unit.specs.Declaring.{with_signals, function_lines, FunctionsPinned}
 use Rattle.safl_unit.proofs.declare.add_functions.Given as goal
 

@@ -1,9 +1,5 @@
+use Rattle.safl_unit.proofs.Common.{codes, get_map, input_line, port_lines, take_all, with_signals}
 use Rattle.std.proofs.Common.{◌≡◌, ◌++◌, [], ◌∷◌, List, ℕ, map, length, ap, ◌∙◌, arith}
-use Rattle.std.specs.Prelude.{codes}
-use Rattle.std.proofs.lemmas.List.{take_all}
-use Rattle.safl_word.proofs.Lists.{get_map}
-use Rattle.safl_unit.specs.Finished.{input_line}
-use Rattle.safl_unit.specs.Declaring.{with_signals, port_lines}
 use Rattle.safl_unit.proofs.layout.Declaring.{param_text, param_step, param_count, numbered_next, param_lines_long, named_get}
 use Rattle.safl_unit.proofs.layout.Adding.{named_so, line_at}
 use Rattle.safl_unit.proofs.declare.add_ports.Goals as goal

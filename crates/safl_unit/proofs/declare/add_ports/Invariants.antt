@@ -1,7 +1,4 @@
-use Rattle.std.proofs.Common.{◌≡◌, map, take, length}
-use Rattle.safl_unit.specs.Ties.{numbered}
-use Rattle.safl_unit.specs.Finished.{input_line}
-use Rattle.safl_unit.specs.Declaring.{with_signals, port_lines}
+use Rattle.safl_unit.proofs.Common.{input_line, length, map, numbered, port_lines, take, with_signals, ◌≡◌}
 use Rattle.safl_unit.proofs.declare.add_ports.Given as goal
 
 abbrev pub invariant-loop-i : goal.invariant-loop-i

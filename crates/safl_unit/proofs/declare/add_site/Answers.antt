@@ -1,7 +1,5 @@
+use Rattle.safl_unit.proofs.Common.{codes, of_site, open_register}
 use Rattle.std.proofs.Common.{◌≡◌, [], ◌∷◌, true, ◌∙◌}
-use Rattle.std.specs.Prelude.{codes}
-use Rattle.safl_circuit.specs.Names.{of_site}
-use Rattle.safl_unit.specs.Finished.{open_register}
 use Rattle.safl_unit.proofs.layout.Adding.{named_so, may_now, may_step, may_site, lines_if}
 use Rattle.safl_unit.proofs.declare.add_site.Goals as goal
 

@@ -1,7 +1,6 @@
+use Rattle.safl_unit.proofs.Common.{CheckedProgram, open_register}
 use Rattle.std.proofs.Common.{suc, ◌++◌, ◌∷◌, [], ◌∙◌, refl, ap, arith}
-use Rattle.safl_term.specs.Checked.{CheckedProgram}
 use Rattle.safl_circuit.specs.Layout.{lines, site_lines}
-use Rattle.safl_unit.specs.Finished.{open_register}
 use Rattle.safl_unit.proofs.layout.Declaring.{lines_count}
 use Rattle.safl_unit.proofs.layout.Pinning.{lines_from_one, lines_next, few_sites, none_sited_at, more_sited_at}
 use Rattle.safl_unit.proofs.layout.Adding.{lines_at}

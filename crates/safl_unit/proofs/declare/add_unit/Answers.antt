@@ -1,7 +1,5 @@
+use Rattle.safl_unit.proofs.Common.{codes, of_function, open_register}
 use Rattle.std.proofs.Common.{◌≡◌, ◌++◌, List, ℕ, true, ap, ◌∙◌, arith}
-use Rattle.std.specs.Prelude.{codes}
-use Rattle.safl_circuit.specs.Names.{of_function}
-use Rattle.safl_unit.specs.Finished.{open_register}
 use Rattle.safl_unit.proofs.layout.Adding.{named_so, may_now, may_step, may_unit}
 use Rattle.safl_unit.proofs.layout.Declaring.{name_text}
 use Rattle.safl_unit.proofs.declare.add_unit.Goals as goal

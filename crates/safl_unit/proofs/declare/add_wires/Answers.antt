@@ -1,8 +1,5 @@
-use Rattle.std.proofs.Common.{◌≡◌, suc, map, subst, arith}
-use Rattle.safl_term.specs.Checked.{CheckedProgram}
+use Rattle.safl_unit.proofs.Common.{CheckedProgram, arith, map, open_wire, subst, suc, with_signals, ◌≡◌}
 use Rattle.safl_circuit.specs.Layout.{lines, function_wires, site_wires}
-use Rattle.safl_unit.specs.Finished.{open_wire}
-use Rattle.safl_unit.specs.Declaring.{with_signals}
 use Rattle.safl_unit.proofs.layout.Declaring.{lines_count}
 use Rattle.safl_unit.proofs.layout.Pinning.{body_wires_count, few_calls}
 use Rattle.safl_unit.proofs.declare.add_wires.Goals as goal

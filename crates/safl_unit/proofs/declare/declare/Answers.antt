@@ -1,10 +1,6 @@
+use Rattle.safl_unit.proofs.Common.{CheckedProgram, IsChecked, UnitPins, arity, input_line, numbered, open_register}
 use Rattle.std.proofs.Common.{◌≡◌, ◌≤◌, List, suc, map, length, subst, sym, ap, ◌∙◌, arith}
-use Rattle.safl_term.specs.Program.{arity}
-use Rattle.safl_term.specs.Checked.{CheckedProgram, IsChecked}
 use Rattle.safl_circuit.specs.Layout.{lines}
-use Rattle.safl_unit.specs.declared.pins.UnitPins.{UnitPins}
-use Rattle.safl_unit.specs.Ties.{numbered}
-use Rattle.safl_unit.specs.Finished.{input_line, open_register}
 use Rattle.safl_unit.specs.Declaring.{with_signals, MayAdd, function_lines, port_lines, FunctionsPinned, SitesPinned}
 use Rattle.safl_unit.proofs.layout.Declared.{inputs_few, registers_few, sites_few, net_declared, pins_are}
 use Rattle.safl_unit.proofs.layout.Fitting.{pins_fit}

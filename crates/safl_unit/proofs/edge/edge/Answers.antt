@@ -1,10 +1,5 @@
+use Rattle.safl_unit.proofs.Common.{BitsFit, Load, Sig, SitesNext, SomeFit, UnitsNext, bits_kept, builds_on, builds_within}
 use Rattle.std.proofs.Common.{◌+◌, ◌*◌, List, [], ◌∷◌, Option, length, sym, ap, subst, ◌∙◌, arith}
-use Rattle.safl_net.specs.declared.cell.Sig.{Sig}
-use Rattle.safl_lower.specs.declared.loads.Load.{Load}
-use Rattle.safl_lower.specs.Tables.{SomeFit, BitsFit}
-use Rattle.safl_lower.proofs.Building.{builds_on, builds_within}
-use Rattle.safl_lower.proofs.KnownLoads.{bits_kept}
-use Rattle.safl_unit.specs.Steps.{UnitsNext, SitesNext}
 use Rattle.safl_unit.proofs.equations.Keeping.{pins_kept, returns_kept, outcomes_kept, goes_kept}
 use Rattle.safl_unit.proofs.equations.Whole.{events_kept, events_fit, units_next_kept, members_next_kept, has_next}
 use Rattle.safl_unit.proofs.edge.edge.Goals as goal
@@ -17,9 +12,6 @@ edge_events-requires-clause-goes c = record { count = c.requires.goes.count; eac
 
 pub edge_events-requires-clause-room : goal.edge_events-requires-clause-room
 edge_events-requires-clause-room c = let r = c.requires.room.room in record { tidy = c.requires.room.tidy; room = omega (arith, r) }
-
-pub next_units-requires-clause-settled : goal.next_units-requires-clause-settled
-next_units-requires-clause-settled c = c.in_ok-events.ensures.built.settles.settled c.requires.settled
 
 pub next_units-requires-clause-pins : goal.next_units-requires-clause-pins
 next_units-requires-clause-pins c = pins_kept c.in_ok-events.ensures.built c.requires.pins
@@ -99,7 +91,7 @@ next_sites-requires-clause-room c =
 pub returns-clause-built : goal.returns-clause-built
 returns-clause-built c =
     let C = c.args.p.now.program in
-    builds_within (1035 * C.functions + 32 * C.sites + 32) (builds_on
+    builds_within (1024 * C.functions + 32 * C.sites + 32) (builds_on
     (builds_on (builds_on c.in_ok-events.ensures.built c.in_ok-units.ensures.built) c.in_ok-members.ensures.built) c.in_ok-sites.ensures.built) (omega arith)
 
 pub returns-clause-done : goal.returns-clause-done

@@ -1,15 +1,6 @@
+use Rattle.safl_unit.proofs.Common.{CheckedProgram, FitsIn, IsBitIn, Load, MemberFits, Sig, arity, builds_on, builds_same, builds_within}
+use Rattle.safl_unit.proofs.Common.{entry_in, many, maybe_bit_kept, maybe_load_kept, on_in, slice_get_read, sources_length, taken_in}
 use Rattle.std.proofs.Common.{◌≡◌, ℕ, ◌+◌, ◌*◌, ◌<◌, length, Option, Bool, Some, slice_get, refl, ap, subst, ◌∙◌, arith}
-use Rattle.std.proofs.lemmas.Option.{slice_get_read}
-use Rattle.safl_term.specs.Checked.{CheckedProgram}
-use Rattle.safl_term.specs.Program.{arity}
-use Rattle.safl_net.specs.declared.cell.Sig.{Sig}
-use Rattle.safl_circuit.specs.Equations.{many}
-use Rattle.safl_lower.specs.declared.loads.Load.{Load}
-use Rattle.safl_lower.specs.Tables.{load_in, sig_in, taken_in, on_in, FitsIn, IsBitIn}
-use Rattle.safl_lower.proofs.Building.{builds_same, builds_on, builds_within}
-use Rattle.safl_lower.proofs.KnownLoads.{maybe_load_kept, maybe_bit_kept}
-use Rattle.safl_lower.proofs.Cells.{sources_length}
-use Rattle.safl_unit.specs.Cycles.{MemberFits}
 use Rattle.safl_unit.specs.Steps.{MemberStep, MembersNext}
 use Rattle.safl_unit.proofs.equations.Keeping.{member_kept}
 use Rattle.safl_unit.proofs.equations.Stepping.{no_members, more_members}
@@ -64,10 +55,10 @@ entries_at c =
       at_load = g3;
       at_loop = g4;
       at = g5;
-      entry_fits = maybe_bit_kept built entry (subst (λ (t : Option (Option Sig)). IsBitIn a (sig_in t)) g1 (ef.entries f));
-      rival_fits = maybe_bit_kept built rival (subst (λ (t : Option (Option Sig)). IsBitIn a (sig_in t)) g2 (ef.rivals f));
-      load_fits = maybe_load_kept built load params (subst (λ (t : Option (Option Load)). FitsIn a (load_in t) params) g3 (ef.loads f));
-      loop_fits = maybe_load_kept built looped params (subst (λ (t : Option (Option Load)). FitsIn a (load_in t) params) g4 (of.loops f));
+      entry_fits = maybe_bit_kept built entry (subst (λ (t : Option (Option Sig)). IsBitIn a (entry_in t)) g1 (ef.entries f));
+      rival_fits = maybe_bit_kept built rival (subst (λ (t : Option (Option Sig)). IsBitIn a (entry_in t)) g2 (ef.rivals f));
+      load_fits = maybe_load_kept built load params (subst (λ (t : Option (Option Load)). FitsIn a (entry_in t) params) g3 (ef.loads f));
+      loop_fits = maybe_load_kept built looped params (subst (λ (t : Option (Option Load)). FitsIn a (entry_in t) params) g4 (of.loops f));
       fits = member_kept built (pf.members f x g5);
       count = sources_length a x.args.items params (pf.members f x g5).args;
     }

@@ -1,6 +1,4 @@
-use Rattle.std.proofs.Common.{◌*◌}
-use Rattle.safl_lower.specs.Sources.{Builds}
-use Rattle.safl_unit.specs.Steps.{MembersNext}
+use Rattle.safl_unit.proofs.Common.{Builds, MembersNext, ◌*◌}
 use Rattle.safl_unit.proofs.edge.next_members.Given as goal
 
 abbrev pub invariant-loop-f : goal.invariant-loop-f

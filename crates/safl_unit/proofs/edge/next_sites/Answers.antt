@@ -1,12 +1,6 @@
+use Rattle.safl_unit.proofs.Common.{IsBitIn, IsSource, Sig, SiteFits, entry_in, maybe_bit_kept, on, on_in, pin, slice_get_read}
 use Rattle.std.proofs.Common.{◌≡◌, ℕ, ◌+◌, ◌*◌, ◌<◌, ◌≤◌, length, Option, Bool, Some, None, slice_get, slice_index_or, refl, sym, ap, subst, ◌∙◌, add-one, arith}
-use Rattle.std.proofs.lemmas.Option.{slice_get_read}
-use Rattle.safl_net.specs.declared.cell.Sig.{Sig}
-use Rattle.safl_net.specs.Bits.{on}
-use Rattle.safl_lower.specs.Sources.{IsSource}
-use Rattle.safl_lower.specs.Tables.{pin, sig_in, on_in, IsBitIn}
 use Rattle.safl_lower.proofs.Building.{builds_same, builds_on, builds_within, source_kept}
-use Rattle.safl_lower.proofs.KnownLoads.{maybe_bit_kept}
-use Rattle.safl_unit.specs.Cycles.{SiteFits}
 use Rattle.safl_unit.specs.Steps.{SiteStep, SitesNext}
 use Rattle.safl_unit.proofs.equations.Keeping.{site_kept}
 use Rattle.safl_unit.proofs.equations.Tables.{pin_is, read_again}
@@ -70,7 +64,7 @@ site_now c =
       ret_is = r;
       ret_fits = source_kept built (subst (λ (t : Sig). IsSource a t 1) r (c.requires.returns.ret (site c) above most));
       go_fits = source_kept built (c.requires.goes.each (site c) most);
-      clear_fits = maybe_bit_kept built (clear c) (subst (λ (t : Option (Option Sig)). IsBitIn a (sig_in t)) g1 (c.requires.clears.each owner));
+      clear_fits = maybe_bit_kept built (clear c) (subst (λ (t : Option (Option Sig)). IsBitIn a (entry_in t)) g1 (c.requires.clears.each owner));
       res_fits = source_kept built (pf.units (callee c) unit at_unit).res;
       fits = site_kept built (pf.sites (site c) x g3 above);
     }

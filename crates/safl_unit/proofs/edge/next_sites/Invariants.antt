@@ -1,6 +1,4 @@
-use Rattle.std.proofs.Common.{◌*◌}
-use Rattle.safl_lower.specs.Sources.{Builds}
-use Rattle.safl_unit.specs.Steps.{SitesNext}
+use Rattle.safl_unit.proofs.Common.{Builds, SitesNext, ◌*◌}
 use Rattle.safl_unit.proofs.edge.next_sites.Given as goal
 
 abbrev pub invariant-loop-done : goal.invariant-loop-done

@@ -1,12 +1,6 @@
+use Rattle.safl_unit.proofs.Common.{FitsIn, IsBitIn, Load, Sig, UnitPins, UnitsNext, builds_on, builds_same, builds_within, entry_in}
+use Rattle.safl_unit.proofs.Common.{maybe_bit_kept, maybe_load_kept, slice_get-get_or, slice_get_read}
 use Rattle.std.proofs.Common.{◌≡◌, ℕ, ◌+◌, ◌*◌, ◌⊎◌, List, [], ◌∷◌, length, Option, None, slice_get, slice_index_or, inl, inr, ⊎_elim, refl, sym, ap, subst, ◌∙◌, arith}
-use Rattle.std.proofs.lemmas.Option.{slice_get_read, slice_get-get_or}
-use Rattle.safl_net.specs.declared.cell.Sig.{Sig}
-use Rattle.safl_lower.specs.declared.loads.Load.{Load}
-use Rattle.safl_lower.specs.Tables.{load_in, sig_in, FitsIn, IsBitIn}
-use Rattle.safl_lower.proofs.Building.{builds_same, builds_on, builds_within}
-use Rattle.safl_lower.proofs.KnownLoads.{maybe_load_kept, maybe_bit_kept}
-use Rattle.safl_unit.specs.declared.pins.UnitPins.{UnitPins}
-use Rattle.safl_unit.specs.Steps.{UnitsNext}
 use Rattle.safl_unit.proofs.equations.Keeping.{unit_kept}
 use Rattle.safl_unit.proofs.equations.Stepping.{no_units, more_units}
 use Rattle.safl_unit.proofs.edge.next_units.Goals as goal
@@ -34,7 +28,7 @@ unit_after-requires-clause-fits c =
     let x = slice_get_read us (length us) u c.index-now.result.now refl (omega (arith, w, l, k, j)) c.index-now.ensures in (
       C.result u,
       maybe_load_kept c.loop-f.invariant.built c.index-ends-unit.result (C.result u ∷ [])
-          (subst (λ (o : Option (Option Load)). FitsIn c.args.net.now (load_in o) (C.result u ∷ [])) e (c.requires.ends.each u)),
+          (subst (λ (o : Option (Option Load)). FitsIn c.args.net.now (entry_in o) (C.result u ∷ [])) e (c.requires.ends.each u)),
       unit_kept c.loop-f.invariant.built (c.requires.pins.bank.units u c.index-now.result.now x),
     )
 
@@ -47,10 +41,7 @@ unit_after-requires-clause-start c =
     let ss = c.args.starts.now in
     let m = c.requires.starts.count in
     let s = slice_get-get_or ss u None (omega (arith, w, l, k, m)) in
-    maybe_bit_kept c.loop-f.invariant.built (slice_index_or ss u None) (subst (λ (o : Option (Option Sig)). IsBitIn c.args.net.now (sig_in o)) s (c.requires.starts.each u))
-
-pub unit_after-requires-clause-settled : goal.unit_after-requires-clause-settled
-unit_after-requires-clause-settled c = c.loop-f.invariant.built.settles.settled c.requires.settled
+    maybe_bit_kept c.loop-f.invariant.built (slice_index_or ss u None) (subst (λ (o : Option (Option Sig)). IsBitIn c.args.net.now (entry_in o)) s (c.requires.starts.each u))
 
 pub unit_after-requires-clause-room : goal.unit_after-requires-clause-room
 unit_after-requires-clause-room c =
@@ -82,10 +73,10 @@ loop-f-preserved c =
     let built = c.in_ok-next.ensures.built in
     let done = c.in_ok-next.ensures.done (C.result u)
     (maybe_load_kept c.loop-f.invariant.built c.index-ends-unit.result (C.result u ∷ [])
-    (subst (λ (o : Option (Option Load)). FitsIn c.args.net.now (load_in o) (C.result u ∷ [])) e (c.requires.ends.each u)))
+    (subst (λ (o : Option (Option Load)). FitsIn c.args.net.now (entry_in o) (C.result u ∷ [])) e (c.requires.ends.each u)))
     (unit_kept c.loop-f.invariant.built (c.requires.pins.bank.units u c.index-now.result.now x)) in
     record {
-      built = builds_within (16 * (f + 1)) (builds_on c.loop-f.invariant.built built) (omega arith);
+      built = builds_within (5 * (f + 1)) (builds_on c.loop-f.invariant.built built) (omega arith);
       table = more_units C c.loop-f.net c.unit_after.new.net us es ss c.loop-f.all.items c.push.new.self.items f u c.index-ends-unit.result
           (slice_index_or ss u None) c.index-now.result.now c.in_ok-next.next
           c.loop-f.invariant.table built of c.unit_of-unit.ensures.width (ap C.unit of ∙ first.1 ∙ sym of) e s x
@@ -99,7 +90,7 @@ pub returns-clause-built : goal.returns-clause-built
 returns-clause-built c =
     let b = c.loop-f.auto.f-end in
     let k = c.function_count-functions.ensures.count in
-    builds_within (16 * c.args.p.now.program.functions) c.loop-f.invariant.built (omega (arith, b, k))
+    builds_within (5 * c.args.p.now.program.functions) c.loop-f.invariant.built (omega (arith, b, k))
 
 pub returns-clause-done : goal.returns-clause-done
 returns-clause-done c =

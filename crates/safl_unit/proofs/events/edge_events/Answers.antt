@@ -1,9 +1,5 @@
+use Rattle.safl_unit.proofs.Common.{BitsFit, Load, Sig, SomeFit, builds_on, builds_within, on_from, some_kept, taken_from}
 use Rattle.std.proofs.Common.{ℕ, ◌+◌, ◌*◌, ◌==◌, ◌&&◌, ◌||◌, List, [], ◌∷◌, Option, length, is_some, sym, ap, subst, ◌∙◌, arith}
-use Rattle.safl_net.specs.declared.cell.Sig.{Sig}
-use Rattle.safl_lower.specs.declared.loads.Load.{Load}
-use Rattle.safl_lower.specs.Tables.{SomeFit, BitsFit, taken_from, on_from}
-use Rattle.safl_lower.proofs.Building.{builds_on, builds_within}
-use Rattle.safl_lower.proofs.KnownLoads.{some_kept}
 use Rattle.safl_unit.specs.Edges.{one_below, rival, ShowsBits, ShowsBelow}
 use Rattle.safl_unit.proofs.equations.Keeping.{outcomes_kept, goes_fit_kept, goes_kept, ends_kept, all_loads_kept, tests_kept}
 use Rattle.safl_circuit.specs.Equations.{starts, clears, starts_it}

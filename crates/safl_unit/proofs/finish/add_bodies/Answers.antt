@@ -1,5 +1,4 @@
-use Rattle.std.proofs.Common.{length, refl, sym, arith}
-use Rattle.std.proofs.lemmas.Option.{slice_get_read}
+use Rattle.safl_unit.proofs.Common.{arith, length, refl, slice_get_read, sym}
 use Rattle.safl_unit.specs.Ties.{body_ties}
 use Rattle.safl_unit.proofs.equations.Tables.{pin_is}
 use Rattle.safl_unit.proofs.assembly.Listing.{none_listed, more_listed, body_listed}

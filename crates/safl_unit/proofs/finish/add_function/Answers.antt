@@ -1,5 +1,4 @@
-use Rattle.std.proofs.Common.{◌++◌, length, refl, ap, ◌∙◌, arith}
-use Rattle.std.proofs.lemmas.Option.{slice_get_read}
+use Rattle.safl_unit.proofs.Common.{ap, arith, length, refl, slice_get_read, ◌++◌, ◌∙◌}
 use Rattle.safl_unit.proofs.assembly.Listing.{function_listed}
 use Rattle.safl_unit.proofs.finish.add_function.Goals as goal
 

@@ -1,5 +1,4 @@
-use Rattle.std.proofs.Common.{sym, subst}
-use Rattle.safl_net.specs.Names.{IsTidy}
+use Rattle.safl_unit.proofs.Common.{IsTidy, subst, sym}
 use Rattle.safl_net.proofs.Tidy.{tidy_output}
 use Rattle.safl_unit.proofs.finish.add_output.Goals as goal
 

@@ -1,7 +1,5 @@
+use Rattle.safl_unit.proofs.Common.{CheckedProgram, Netlist, slice_get_read}
 use Rattle.std.proofs.Common.{◌≡◌, Some, length, slice_get, refl, sym, ap, ◌∙◌, arith}
-use Rattle.std.proofs.lemmas.Option.{slice_get_read}
-use Rattle.safl_term.specs.Checked.{CheckedProgram}
-use Rattle.safl_net.specs.Netlist.{Netlist}
 use Rattle.safl_net.proofs.Growth.{within}
 use Rattle.safl_unit.proofs.assembly.Finishing.{finishes}
 use Rattle.safl_unit.proofs.titles.Outputs.{done_free, result_free}

@@ -1,7 +1,5 @@
-use Rattle.std.proofs.Common.{◌++◌, map, ap, ◌∙◌, arith}
-use Rattle.safl_term.specs.Checked.{CheckedProgram}
+use Rattle.safl_unit.proofs.Common.{CheckedProgram, ap, arith, map, own_ties, ◌++◌, ◌∙◌}
 use Rattle.safl_unit.specs.Ties.{sig_of, site_ties}
-use Rattle.safl_unit.specs.Setting.{own_ties}
 use Rattle.safl_unit.proofs.assembly.Listing.{listed_from_one, more_listed, no_site_zero, registers_listed}
 use Rattle.safl_unit.proofs.finish.register_sources.Goals as goal
 

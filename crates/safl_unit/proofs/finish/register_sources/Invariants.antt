@@ -1,6 +1,5 @@
-use Rattle.std.proofs.Common.{◌≡◌, ◌++◌, map}
+use Rattle.safl_unit.proofs.Common.{map, own_ties, ◌++◌, ◌≡◌}
 use Rattle.safl_unit.specs.Ties.{sig_of, ties, site_ties}
-use Rattle.safl_unit.specs.Setting.{own_ties}
 use Rattle.safl_unit.proofs.finish.register_sources.Given as goal
 
 abbrev pub invariant-loop-k : goal.invariant-loop-k

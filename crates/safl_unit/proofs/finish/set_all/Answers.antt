@@ -1,5 +1,4 @@
-use Rattle.std.proofs.Common.{◌∙◌, arith}
-use Rattle.safl_lower.proofs.Cells.{sources_length}
+use Rattle.safl_unit.proofs.Common.{arith, sources_length, ◌∙◌}
 use Rattle.safl_unit.proofs.assembly.Finishing.{first_wire_is, all_long, nexts_long, copies_long, registers_take, wires_take, all_set, all_tidy}
 use Rattle.safl_unit.proofs.finish.set_all.Goals as goal
 

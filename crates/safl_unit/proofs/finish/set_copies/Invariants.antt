@@ -1,5 +1,4 @@
-use Rattle.std.proofs.Common.{◌≡◌, map, take}
-use Rattle.safl_unit.specs.Setting.{with_kinds, copy_kind}
+use Rattle.safl_unit.proofs.Common.{copy_kind, map, take, with_kinds, ◌≡◌}
 use Rattle.safl_unit.proofs.finish.set_copies.Given as goal
 
 abbrev pub invariant-loop-i : goal.invariant-loop-i

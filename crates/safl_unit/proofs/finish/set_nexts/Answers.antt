@@ -1,6 +1,5 @@
-use Rattle.std.proofs.Common.{None, refl}
+use Rattle.safl_unit.proofs.Common.{None, next_kind, refl}
 use Rattle.safl_net.specs.Netlist.{Reg}
-use Rattle.safl_unit.specs.Setting.{next_kind}
 use Rattle.safl_unit.proofs.equations.Tables.{pin_get}
 use Rattle.safl_unit.proofs.assembly.Setting.{takes_next, kinds_next}
 use Rattle.safl_unit.proofs.finish.set_nexts.Goals as goal

@@ -1,5 +1,4 @@
-use Rattle.std.proofs.Common.{◌≡◌, map, take}
-use Rattle.safl_unit.specs.Setting.{with_kinds, next_kind}
+use Rattle.safl_unit.proofs.Common.{map, next_kind, take, with_kinds, ◌≡◌}
 use Rattle.safl_unit.proofs.finish.set_nexts.Given as goal
 
 abbrev pub invariant-loop-i : goal.invariant-loop-i

@@ -1,5 +1,4 @@
-use Rattle.std.proofs.Common.{◌++◌, map, refl, ap, ◌∙◌, arith}
-use Rattle.safl_term.specs.Checked.{CheckedProgram}
+use Rattle.safl_unit.proofs.Common.{CheckedProgram, ap, arith, map, refl, ◌++◌, ◌∙◌}
 use Rattle.safl_unit.specs.Ties.{sig_of, ties, body_ties, call_ties}
 use Rattle.safl_unit.proofs.assembly.Listing.{listed_from_one, more_listed, listed_long, listed_within}
 use Rattle.safl_unit.proofs.finish.wire_sources.Goals as goal

@@ -1,14 +1,6 @@
+use Rattle.safl_unit.proofs.Common.{AreBits, CheckedProgram, Sig, bit_or, get_some, on, on_in, row_at, row_kept, unit_for, wired_before}
 use Rattle.std.proofs.Common.{◌≡◌, ℕ, suc, ◌+◌, ◌*◌, ◌<◌, List, Bool, ◌&&◌, not, cond, length, slice_get, refl, sym, ap, subst, ◌∙◌, add-one, arith}
-use Rattle.safl_word.proofs.Lists.{get_some}
-use Rattle.safl_term.specs.Checked.{CheckedProgram}
-use Rattle.safl_term.specs.Program.{unit_for}
-use Rattle.safl_net.specs.declared.cell.Sig.{Sig}
-use Rattle.safl_net.proofs.Growth.{wired_before}
-use Rattle.safl_net.specs.Bits.{on}
-use Rattle.safl_lower.specs.Tables.{bit_or, on_in}
-use Rattle.safl_lower.specs.Rows.{AreBits, row_at}
 use Rattle.safl_lower.proofs.Building.{builds_on, builds_within, builds_same}
-use Rattle.safl_lower.proofs.JoinedRows.{row_kept}
 use Rattle.safl_unit.specs.Arbiters.{want_at, site_row}
 use Rattle.safl_unit.proofs.equations.Keeping.{pins_kept, outcomes_kept, cycle_before}
 use Rattle.safl_unit.proofs.equations.Indexing.{site_at, main_at, place_within}

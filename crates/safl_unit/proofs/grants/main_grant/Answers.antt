@@ -1,7 +1,5 @@
-use Rattle.std.proofs.Common.{not}
+use Rattle.safl_unit.proofs.Common.{builds_on, not, on}
 use Rattle.safl_word.proofs.Options.{on_ok_always}
-use Rattle.safl_net.specs.Bits.{on}
-use Rattle.safl_lower.proofs.Building.{builds_on}
 use Rattle.safl_unit.proofs.equations.Granting.{both_shown}
 use Rattle.safl_unit.proofs.grants.main_grant.Goals as goal
 

@@ -1,9 +1,6 @@
+use Rattle.safl_unit.proofs.Common.{IfOk-weaker, Sig, on, on_in}
 use Rattle.std.proofs.Common.{Bool, ◌&&◌, cond, Option, slice_get, slice_index_or, sym, ap, ◌∙◌}
-use Rattle.std.proofs.lemmas.Result.{IfOk-weaker}
 use Rattle.safl_word.proofs.Lists.{get_index}
-use Rattle.safl_net.specs.declared.cell.Sig.{Sig}
-use Rattle.safl_net.specs.Bits.{on}
-use Rattle.safl_lower.specs.Tables.{on_in}
 use Rattle.safl_lower.proofs.JoinedRows.{bit_of_row}
 use Rattle.safl_unit.proofs.grants.site_grant.Goals as goal
 

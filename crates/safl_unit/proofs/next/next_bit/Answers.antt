@@ -1,7 +1,4 @@
-use Rattle.std.proofs.Common.{Bool, ◌&&◌, not, ap, ◌∙◌}
-use Rattle.safl_net.proofs.Growth.{wired_before}
-use Rattle.safl_lower.specs.Tables.{on_in}
-use Rattle.safl_lower.proofs.Building.{builds_on}
+use Rattle.safl_unit.proofs.Common.{Bool, ap, builds_on, not, on_in, wired_before, ◌&&◌, ◌∙◌}
 use Rattle.safl_unit.proofs.next.next_bit.Goals as goal
 
 pub returns-clause-built : goal.returns-clause-built

@@ -1,12 +1,5 @@
-use Rattle.std.proofs.Common.{◌+◌, ◌*◌, List, length, sym, subst, ap, ◌∙◌, arith}
-use Rattle.std.specs.Prelude.{unwrap_or}
-use Rattle.safl_net.specs.declared.cell.Sig.{Sig}
-use Rattle.safl_net.specs.Growth.{words}
-use Rattle.safl_net.proofs.Growth.{wired_before}
-use Rattle.safl_lower.specs.Sources.{AreSources}
-use Rattle.safl_lower.specs.Tables.{taken_in}
-use Rattle.safl_lower.proofs.Building.{builds_on, builds_within, source_kept, sources_kept}
-use Rattle.safl_lower.proofs.KnownLoads.{maybe_load_kept}
+use Rattle.safl_unit.proofs.Common.{AreSources, List, Sig, ap, arith, builds_on, builds_within, length, maybe_load_kept, source_kept}
+use Rattle.safl_unit.proofs.Common.{sources_kept, subst, sym, taken_in, unwrap_or, wired_before, words, ◌*◌, ◌+◌, ◌∙◌}
 use Rattle.safl_unit.proofs.next.next_member.Goals as goal
 
 pub next_at-requires-clause-at : goal.next_at-requires-clause-at

@@ -1,9 +1,5 @@
+use Rattle.safl_unit.proofs.Common.{Word, builds_on, maybe_bit_kept, on, source_kept, wired_before}
 use Rattle.std.proofs.Common.{◌≡◌, Bool, true, false, not, ◌&&◌, cond, refl, ◌∙◌}
-use Rattle.safl_word.specs.Words.{Word}
-use Rattle.safl_net.specs.Bits.{on}
-use Rattle.safl_net.proofs.Growth.{wired_before}
-use Rattle.safl_lower.proofs.Building.{builds_on, source_kept}
-use Rattle.safl_lower.proofs.KnownLoads.{maybe_bit_kept}
 use Rattle.safl_unit.proofs.next.next_site.Goals as goal
 
 turned : (kept ret : Bool) (res keep : Word) → kept ≡ true → cond (kept && not ret) keep res ≡ cond ret res keep

@@ -1,9 +1,5 @@
+use Rattle.safl_unit.proofs.Common.{builds_on, maybe_bit_kept, maybe_load_kept, on, on_in, source_kept, wired_before}
 use Rattle.std.proofs.Common.{[], ◌∷◌, Bool, ◌&&◌, ◌||◌, not, ap, ◌∙◌}
-use Rattle.safl_net.proofs.Growth.{wired_before}
-use Rattle.safl_net.specs.Bits.{on}
-use Rattle.safl_lower.specs.Tables.{on_in}
-use Rattle.safl_lower.proofs.Building.{builds_on, source_kept}
-use Rattle.safl_lower.proofs.KnownLoads.{maybe_load_kept, maybe_bit_kept}
 use Rattle.safl_unit.proofs.equations.Chains.{load_bit_fits, load_bit_shows}
 use Rattle.safl_unit.proofs.next.next_unit.Goals as goal
 
@@ -21,14 +17,11 @@ some_bit-requires-clause-bit c =
     maybe_bit_kept (builds_on c.or_some.ensures.built c.and_none.ensures.built) c.load_bit-bit.result
     (load_bit_fits c.args.net.now c.args.end.now c.load_bit-bit.result (b.0 ∷ []) c.load_bit-bit.ensures b.1)
 
-pub reset_word-requires-clause-fits : goal.reset_word-requires-clause-fits
-reset_word-requires-clause-fits c =
+pub load_word-requires-clause-fits : goal.load_word-requires-clause-fits
+load_word-requires-clause-fits c =
     let b = c.requires.fits in
     let h = builds_on (builds_on c.or_some.ensures.built c.and_none.ensures.built) c.some_bit.ensures.built in
     (b.0, maybe_load_kept h c.args.end.now (b.0 ∷ []) b.1, source_kept h b.2.res)
-
-pub reset_word-requires-clause-settled : goal.reset_word-requires-clause-settled
-reset_word-requires-clause-settled c = (builds_on (builds_on c.or_some.ensures.built c.and_none.ensures.built) c.some_bit.ensures.built).settles.settled c.requires.settled
 
 pub returns-clause-built : goal.returns-clause-built
 returns-clause-built c = builds_on (builds_on (builds_on c.or_some.ensures.built c.and_none.ensures.built) c.some_bit.ensures.built) c.in_ok-res.ensures.built

@@ -1,7 +1,5 @@
+use Rattle.safl_unit.proofs.Common.{CheckedProgram, SiteShown, builds_on, builds_same, builds_within}
 use Rattle.std.proofs.Common.{◌≡◌, ℕ, suc, Bool, ◌+◌, ◌*◌, refl, sym, ap, subst, ◌∙◌, add-one, arith}
-use Rattle.safl_term.specs.Checked.{CheckedProgram}
-use Rattle.safl_lower.proofs.Building.{builds_same, builds_on, builds_within}
-use Rattle.safl_unit.specs.Returning.{SiteShown}
 use Rattle.safl_unit.proofs.equations.Keeping.{pins_kept}
 use Rattle.safl_unit.proofs.equations.Indexing.{unit_at, site_at}
 use Rattle.safl_unit.proofs.equations.Sites.{SoFar, none_so_far, more_so_far, all_returns}

@@ -1,5 +1,4 @@
-use Rattle.std.proofs.Common.{◌*◌}
-use Rattle.safl_lower.specs.Sources.{Builds}
+use Rattle.safl_unit.proofs.Common.{Builds, ◌*◌}
 use Rattle.safl_unit.proofs.equations.Sites.{SoFar}
 use Rattle.safl_unit.proofs.returns.returns.Given as goal
 

@@ -1,7 +1,4 @@
-use Rattle.std.proofs.Common.{Bool, ◌&&◌, refl, ap, ◌∙◌}
-use Rattle.safl_net.proofs.Growth.{wired_before}
-use Rattle.safl_net.specs.Bits.{on}
-use Rattle.safl_lower.proofs.Building.{builds_on, source_kept}
+use Rattle.safl_unit.proofs.Common.{Bool, ap, builds_on, on, refl, source_kept, wired_before, ◌&&◌, ◌∙◌}
 use Rattle.safl_unit.proofs.returns.site_return.Goals as goal
 
 pub either-requires-clause-first : goal.either-requires-clause-first

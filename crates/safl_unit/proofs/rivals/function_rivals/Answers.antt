@@ -1,15 +1,7 @@
+use Rattle.safl_unit.proofs.Common.{AreBits, CheckedProgram, IsBitIn, Several, Sig, Val, bit_joins, builds_on, builds_same, builds_within}
+use Rattle.safl_unit.proofs.Common.{entry_in, many, maybe_bit_kept, on_from, row_at, slice_get-get_or, slice_get_read, total}
 use Rattle.std.proofs.Common.{◌≡◌, ℕ, ◌+◌, ◌*◌, ◌&&◌, List, length, Vec, Global, Option, None, slice_index_or, refl, sym, ap, subst, ◌∙◌, arith}
-use Rattle.std.proofs.lemmas.Option.{slice_get-get_or, slice_get_read}
-use Rattle.safl_term.specs.Checked.{CheckedProgram}
-use Rattle.safl_net.specs.declared.cell.Sig.{Sig}
-use Rattle.safl_net.specs.Growth.{Val}
-use Rattle.safl_circuit.specs.Equations.{many}
-use Rattle.safl_lower.specs.declared.trees.Several.{Several}
-use Rattle.safl_lower.specs.Tables.{sig_in, on_from, IsBitIn}
-use Rattle.safl_lower.specs.Rows.{AreBits, bit_joins, row_at, total}
-use Rattle.safl_lower.specs.Joints.{IsSeveralIn, several_in}
-use Rattle.safl_lower.proofs.Building.{builds_same, builds_on, builds_within}
-use Rattle.safl_lower.proofs.KnownLoads.{maybe_bit_kept}
+use Rattle.safl_lower.specs.Joints.{IsSeveralIn}
 use Rattle.safl_lower.proofs.Joints.{several_in_kept}
 use Rattle.safl_unit.specs.Edges.{one_below, entry_row, others_on, rival, ShowsBelow}
 use Rattle.safl_unit.proofs.equations.Others.{entries_fit, rivals_are, below_none_yet, below_one_more}
@@ -54,7 +46,7 @@ several_at c =
     let rows = c.in_ok-rows.ensures.count in
     let at = slice_get_read all (length all) u x refl (omega (arith, l, k, w, many, long, rows)) c.index.ensures in
     let is = ap (λ (rows : List (Vec Sig Global)). row_at rows u) c.deref.ensures.value ∙ c.in_ok-rows.ensures.rows u in
-    let said = subst (λ (o : Option (Option Several)). IsSeveralIn n (row_at c.deref.result.now u) (several_in o)) at (c.in_ok-several.ensures.joined u) in
+    let said = subst (λ (o : Option (Option Several)). IsSeveralIn n (row_at c.deref.result.now u) (entry_in o)) at (c.in_ok-several.ensures.joined u) in
     (entry_row C c.args.entries.now u C.functions, several_in_kept c.loop-f.invariant.built (entry_row C c.args.entries.now u C.functions) x (subst (λ (xs : List Sig). IsSeveralIn n xs x) is said))
 
 pub member_rival-requires-clause-several : goal.member_rival-requires-clause-several
@@ -69,7 +61,7 @@ member_rival-requires-clause-own c =
     let m = c.requires.entries.count in
     let g = slice_get-get_or es f None (omega (arith, l, k, m)) in
     maybe_bit_kept (builds_on c.in_ok-several.ensures.built c.loop-f.invariant.built) (slice_index_or es f None)
-    (subst (λ (o : Option (Option Sig)). IsBitIn c.args.net.now (sig_in o)) g (c.requires.entries.each f))
+    (subst (λ (o : Option (Option Sig)). IsBitIn c.args.net.now (entry_in o)) g (c.requires.entries.each f))
 
 pub member_rival-requires-clause-room : goal.member_rival-requires-clause-room
 member_rival-requires-clause-room c =
@@ -99,7 +91,7 @@ loop-f-preserved c =
     let rows = c.in_ok-rows.ensures.count in
     let at = slice_get_read all (length all) u x refl (omega (arith, l, k, w, many_rows, long, rows)) c.index.ensures in
     let is = ap (λ (rs : List (Vec Sig Global)). row_at rs u) c.deref.ensures.value ∙ c.in_ok-rows.ensures.rows u in
-    let said = subst (λ (o : Option (Option Several)). IsSeveralIn n (row_at c.deref.result.now u) (several_in o)) at (c.in_ok-several.ensures.joined u) in
+    let said = subst (λ (o : Option (Option Several)). IsSeveralIn n (row_at c.deref.result.now u) (entry_in o)) at (c.in_ok-several.ensures.joined u) in
     let joined = several_in_kept c.loop-f.invariant.built (entry_row C es u C.functions) x (subst (λ (xs : List Sig). IsSeveralIn n xs x) is said) in
     let m = c.requires.entries.count in
     let entry = slice_get-get_or es f None (omega (arith, l, k, m)) in

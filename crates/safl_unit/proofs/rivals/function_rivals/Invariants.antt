@@ -1,6 +1,4 @@
-use Rattle.std.proofs.Common.{◌*◌}
-use Rattle.safl_lower.specs.Sources.{Builds}
-use Rattle.safl_lower.specs.Tables.{on_from}
+use Rattle.safl_unit.proofs.Common.{Builds, on_from, ◌*◌}
 use Rattle.safl_unit.specs.Edges.{one_below, rival, ShowsBelow}
 use Rattle.safl_unit.proofs.rivals.function_rivals.Given as goal
 

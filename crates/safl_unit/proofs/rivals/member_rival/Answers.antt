@@ -1,11 +1,6 @@
+use Rattle.safl_unit.proofs.Common.{IfOk-weaker, Netlist, Several, Sig, Val, others_on}
 use Rattle.std.proofs.Common.{◌≡◌, List, [], ◌∷◌, length, Option, Some, None, Bool, false, ◌&&◌, refl, sym, ap, subst, ◌∙◌, arith}
-use Rattle.std.proofs.lemmas.Result.{IfOk-weaker}
-use Rattle.safl_net.specs.declared.cell.Sig.{Sig}
-use Rattle.safl_net.specs.Netlist.{Netlist}
-use Rattle.safl_net.specs.Growth.{Val}
-use Rattle.safl_lower.specs.declared.trees.Several.{Several}
 use Rattle.safl_lower.specs.Joints.{IsSeveralOf, IsSeveralIn}
-use Rattle.safl_unit.specs.Edges.{others_on}
 use Rattle.safl_unit.proofs.rivals.member_rival.Goals as goal
 
 there : (n : Netlist) (row : List Sig) (o : Option Several) (s : Several) → o ≡ Some s → IsSeveralIn n row o → IsSeveralOf n row s

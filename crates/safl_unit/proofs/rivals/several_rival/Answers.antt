@@ -1,13 +1,6 @@
+use Rattle.safl_unit.proofs.Common.{Sig, builds_on, false≢true, maybe_bit_kept, on, on_any, on_two, others_on, wired_before}
 use Rattle.std.proofs.Common.{◌≡◌, Option, Bool, true, false, not, ◌&&◌, ◌||◌, refl, ap, sym, ◌∙◌}
-use Rattle.std.proofs.lemmas.Bool.{false≢true}
-use Rattle.safl_net.specs.declared.cell.Sig.{Sig}
-use Rattle.safl_net.proofs.Growth.{wired_before}
-use Rattle.safl_net.specs.Bits.{on}
-use Rattle.safl_lower.specs.Rows.{on_any, on_two}
-use Rattle.safl_lower.proofs.Building.{builds_on}
-use Rattle.safl_lower.proofs.KnownLoads.{maybe_bit_kept}
 use Rattle.safl_lower.proofs.JoinedRows.{two_any}
-use Rattle.safl_unit.specs.Edges.{others_on}
 use Rattle.safl_unit.proofs.rivals.several_rival.Goals as goal
 
 no_own : (t a : Bool) → (t && not a) ≡ false → a ≡ (t || (a && not false))

@@ -1,9 +1,5 @@
+use Rattle.safl_unit.proofs.Common.{Sig, bit_joins, entry_in, maybe_one, slice_get-get_or, total_bare}
 use Rattle.std.proofs.Common.{◌≡◌, ℕ, ◌==◌, ◌++◌, List, [], cond, Option, None, slice_index_or, refl, sym, ap, ◌∙◌, arith}
-use Rattle.std.proofs.lemmas.Option.{slice_get-get_or}
-use Rattle.safl_net.specs.declared.cell.Sig.{Sig}
-use Rattle.safl_lower.specs.Tables.{sig_in}
-use Rattle.safl_lower.specs.Rows.{maybe_one, bit_joins}
-use Rattle.safl_lower.proofs.JoinedRows.{total_bare}
 use Rattle.safl_unit.specs.Edges.{entry_row}
 use Rattle.safl_unit.proofs.equations.Others.{entry_zero, entry_next}
 use Rattle.safl_unit.proofs.rivals.unit_entries.Goals as goal
@@ -41,7 +37,7 @@ loop-f-preserved c =
       rows = λ u.
           c.in_ok-push_some.ensures.rows u ∙ ap (λ (xs : List Sig). xs ++ cond (u == c.unit_of-unit.result) (maybe_one (slice_index_or es f None)) []) (c.loop-f.invariant.rows u)
           ∙ ap (λ (x : ℕ). entry_row C es u f ++ cond (u == x) (maybe_one (slice_index_or es f None)) []) c.unit_of-unit.ensures.number
-          ∙ ap (λ (o : Option (Option Sig)). entry_row C es u f ++ cond (u == C.unit f) (maybe_one (sig_in o)) []) (sym at) ∙ sym (entry_next C es u f);
+          ∙ ap (λ (o : Option (Option Sig)). entry_row C es u f ++ cond (u == C.unit f) (maybe_one (entry_in o)) []) (sym at) ∙ sym (entry_next C es u f);
       gates = omega (arith, g, more);
     }
 

@@ -1,5 +1,4 @@
-use Rattle.std.proofs.Common.{◌≡◌, ℕ, ◌≤◌, length}
-use Rattle.safl_lower.specs.Rows.{bit_joins, row_at, total}
+use Rattle.safl_unit.proofs.Common.{bit_joins, length, row_at, total, ℕ, ◌≡◌, ◌≤◌}
 use Rattle.safl_unit.specs.Edges.{entry_row}
 use Rattle.safl_unit.proofs.rivals.unit_entries.Given as goal
 
