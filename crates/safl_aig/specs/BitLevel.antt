@@ -9,9 +9,8 @@ use Rattle.safl_aig.specs.Places.{HasNames, Answers}
 use Rattle.safl_aig.specs.Weights.{weight, most_weight, AllZero}
 use Rattle.safl_aig.specs.declared.conversion.BlastErr.{BlastErr}
 
--- In every cycle, for every list of inputs, each bit of each register and output of the circuit is that of the netlist. The
--- circuit's inputs, latches and outputs are named after the netlist's bits. It has at most 16 ANDs for each unit of the netlist's
--- weight.
+-- In every cycle, for all inputs, each bit of each register and output of the circuit is that of the netlist. Its inputs, latches and
+-- outputs are named after the netlist's bits. It has at most 16 ANDs for each unit of the netlist's weight.
 pub record IsBitLevel (n : Netlist) (a : Circuit) : Type 0 where
   pub same : SameBits n a
   pub named : HasNames n a

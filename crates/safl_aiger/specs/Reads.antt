@@ -40,8 +40,7 @@ numbers_found (Latch v) f = f.first ∷ f.second ∷ []
 numbers_found Output f = f.first ∷ []
 numbers_found (And v) f = f.first ∷ f.second ∷ f.third ∷ []
 
--- what the numbers of a line have to be: its own literal, literals of the circuit's variables, and, for an AND, operands below
--- its own literal
+-- what the numbers of a line have to be: its own literal, literals of the circuit, and, for an AND, operands below its own literal
 abbrev pub IsGood : ℕ → LineKind → List ℕ → Type 0
 IsGood most (Input v) (x ∷ []) = x ≡ 2 * v
 IsGood most (Latch v) (x ∷ (n ∷ [])) = (x ≡ 2 * v) × (n ≤ 2 * most + 1)
@@ -133,8 +132,7 @@ abbrev pub EndsSymbols : List (List ℕ) → Type 0
 EndsSymbols [] = Unit {0}
 EndsSymbols (l ∷ ls) = l ≡ codes "c"
 
--- The first line is `aag`, a space and five numbers, of which the first is the sum of inputs, latches and ANDs, and these lines
--- follow it.
+-- The first line is `aag` and five numbers; the first is the sum of inputs, latches and ANDs, and these lines follow it.
 pub record HasHeader (text : List ℕ) (c : Counts) (ls : List (List ℕ)) : Type 0 where
   pub head : List ℕ
   pub lines_are : text_lines text ≡ head ∷ ls

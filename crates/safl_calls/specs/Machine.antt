@@ -11,8 +11,7 @@ pub data Mode : Type 0 where
   Runs : (member serves : ℕ) (args : List Word) → Mode
   Delivers : (serves : ℕ) (word : Word) → Mode
 
--- The mode of each unit and the stage of each site.
--- Site 0 is the call of main from outside. It is unsent until main was accepted, and it has returned what main has returned.
+-- The mode of each unit and the stage of each site. Site 0, the call of main from outside, has returned what main has returned.
 pub record State : Type 0 where
   pub unit : ℕ → Mode
   pub site : ℕ → Stage
@@ -54,16 +53,14 @@ abbrev pub asked_as : Program → (ℕ → Option Word) → Mode → ℕ → ℕ
 asked_as C words (Runs g j args) f k = cond (g == f) (wanted words args (C.body f) k) None
 asked_as C words _ f k = None
 
--- the words with which an unsent site is wanted. Site 0 wants the arguments from outside, if their widths are those of main's
--- parameters
+-- the words with which an unsent site is wanted. Site 0 wants the arguments from outside, if main has parameters of their widths
 abbrev pub asked : Program → List Word → State → ℕ → Option (List Word)
 asked C args s zero = cond (is_unsent (s.site 0) && bytes_eq (widths args) (C.params C.main)) (Some args) None
 asked C args s (suc k) =
     cond (is_unsent (s.site (suc k)) && nat_le (suc k) C.sites) (asked_as C (back s) (s.unit (C.unit (C.caller (suc k)))) (C.caller (suc k)) (suc k)) None
 
--- When an event is enabled. A call is accepted if it is wanted and unsent and the unit of the called function is idle. A function
--- finishes if its unit runs it and its body is ready. A site gets its word if its unit delivers one to it. A unit loops to a
--- function if the body that it runs comes to that tail call.
+-- When an event is enabled. A call is accepted if it is wanted and unsent and its unit is idle. A function finishes if its unit runs it and
+-- its body is ready. A site gets its word if its unit delivers one to it. A unit loops if the body that it runs comes to that tail call.
 abbrev pub Enabled : Program → List Word → State → Event → Type 0
 Enabled C args s (Accept k) = (ws : List Word) × (asked C args s k ≡ Some ws) × (s.unit (unit_for C k) ≡ Idle)
 Enabled C args s (Finish f) = (k : ℕ) × (ws : List Word) × (v : Word) × (s.unit (C.unit f) ≡ Runs f k ws) × (says C s (C.unit f) ≡ Ready v)

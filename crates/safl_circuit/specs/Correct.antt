@@ -46,8 +46,7 @@ pub record DoneIn (n : Netlist) (vs : List Valuation) (v : Word) (bound : ℕ) :
 abbrev pub latest : (C : Program) (args : List Word) {v : Word} → Main C args v → ℕ
 latest C args d = 2 * main_cost C args d - loops C d
 
--- Main gives the word by an evaluation of m calls, of which l are loops, and the cycle is at most 2m - l, and so below 3m. The
--- cycle bounds the number of calls.
+-- Main gives the word in m calls, of which l are loops, and the cycle is at most 2m - l, so below 3m; and it bounds the number of calls.
 pub record IsResult (C : Program) (args : List Word) (v : Word) (cycle : ℕ) : Type 0 where
   pub by : Main C args v
   pub prompt : cycle ≤ latest C args by
@@ -71,8 +70,7 @@ pub record Behaves (C : Program) (D : Names) (n : Netlist) (state : ℕ → ℕ)
   -- no unit is started while it runs
   pub rests : EachCycle C n state (λ args c w. (k : ℕ) → k ≤ C.sites → go_up n w k ≡ true → read n w (of_function D (codes "run$") (unit_for C k)) ≢ 1)
 
--- The netlist is acyclic, has the ports of the program, and behaves in all runs from reset. The registers and wires
--- that this speaks of are there, and have width 1.
+-- The netlist is acyclic, has the ports of the program, and behaves in all runs from reset. What this speaks of is there, with width 1.
 pub record Correct (C : Program) (D : Names) (n : Netlist) : Type 0 where
   pub acyclic : IsAcyclic n
   pub inputs : each_line input_kind n.signals ≡ (codes "start", 1) ∷ zip (map (λ (x : List ℕ). codes "in$" ++ x) (D.params C.main)) (C.params C.main)

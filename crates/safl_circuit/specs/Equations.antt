@@ -36,8 +36,7 @@ abbrev pub ret : Program → Registers → ℕ → Bool
 ret C r zero = r.fin (C.unit C.main)
 ret C r (suc k) = r.fin (unit_for C (suc k)) && (r.sent (suc k) && not (r.got (suc k)))
 
--- What a site shows if it has got its word or gets it now: the word of its unit, or the kept word if the site is kept and does not
--- get it now.
+-- What a site shows once it gets its word: the kept word if the site is kept and got its word before, else the word of its unit.
 abbrev pub on_wires : Program → Choice → Registers → ℕ → Option Word
 on_wires C P r zero = None
 on_wires C P r (suc k) =
@@ -63,8 +62,7 @@ abbrev pub wants_at : Program → Choice → Registers → ℕ → ℕ → Optio
 wants_at C P r u zero = None
 wants_at C P r u (suc j) = cond (unit_for C (suc j) == u && want C P r (suc j)) (Some (suc j)) None
 
--- go: a site starts if it wants. If its unit has an arbiter, the unit also has to rest, and no lower site of the unit may want.
--- Main starts by `start`, if its unit rests
+-- go: a site starts if it wants; with an arbiter only if its unit rests and no lower site wants. Main starts by `start`, if its unit rests
 unfoldable pub go : Program → Choice → Registers → Inputs → ℕ → Bool
 go C P r i zero = i.start && not (r.run (C.unit C.main))
 go C P r i (suc k) =

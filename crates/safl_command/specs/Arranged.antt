@@ -19,8 +19,7 @@ IsWritten name None written = written ≡ (codes "--" ++ name) ∷ []
 IsWritten name (Some value) written =
     (IsUnhyphened value × (written ≡ (codes "--" ++ name) ∷ value ∷ [])) ⊎ (written ≡ (codes "--" ++ name ++ codes "=" ++ value) ∷ [])
 
--- A line has these words, in order, and these options, in any order and at any place. `--` may come before the last words; words
--- after it may begin with a hyphen.
+-- A line has these words, in order, and these options, at any place. Words that begin with a hyphen may come last, after `--`.
 pub data Arranged : List (List ℕ) → List GivenOption → List (List ℕ) → Type 0 where
   ends : Arranged [] [] []
   then_word : (word : List ℕ) (words : List (List ℕ)) (options : List GivenOption) (line : List (List ℕ)) → IsUnhyphened word

@@ -95,8 +95,7 @@ abbrev pub faultless : Kinds → Option (List ℕ × List Row) → Option Comman
 faultless [] entered = given entered (λ e. command_in e.0 e.1)
 faultless _ entered = None
 
--- The command that a whole line is, with the program's name first. It is one if `clap` finds no fault in it and the values that
--- it finds are in range.
+-- The command that a whole line is, after the program's name: `clap` finds no fault in it, and its values are in range.
 unfoldable pub command_of_line : List (List ℕ) → Option Command
 command_of_line line = faultless (fault_of app line) (subcommand_of app line)
 

@@ -7,7 +7,6 @@ unfoldable pub nth_number : ℕ → ℕ → ℕ
 nth_number seed zero = seed % 2 ^ 31
 nth_number seed (suc n) = number_after (nth_number seed n)
 
--- Draw n, counted from 0, is what number n + 1 of the sequence has above its low 16 bits. The first number, the remainder, is not
--- drawn from.
+-- Draw n, from 0, is what number n + 1 of the sequence has above its low 16 bits. The first number, the remainder, is not drawn from.
 abbrev pub draw : ℕ → ℕ → ℕ
 draw seed n = nth_number seed (suc n) / 65536

@@ -6,8 +6,7 @@ use Rattle.safl_io.specs.Counts.{Rose}
 abbrev pub Files : Type 0
 Files = List (List ℕ × List ℕ)
 
--- what a shelf tells: its files, if it tells them; how often a read and a write failed; and how often a name was used of which it
--- tells that it has no file
+-- what a shelf tells: its files, if it tells them; how often a read and a write failed, and a name was used that it has no file of
 pub record ShelfState : Type 0 where
   pub holds : Option Files
   pub read_faults : ℕ

@@ -41,8 +41,7 @@ wires_in n = flat_map (λ g. wire_line g g.kind) n.signals
 abbrev pub outputs_in : Netlist → List Line
 outputs_in n = map (λ o. (o.0, width_of n o.1)) n.outputs
 
--- The cell d of m has the operation of the cell c of n and as many operands. Each operand that is not temporary is the same in
--- both.
+-- The cell d of m has the operation and the number of operands of the cell c of n. Operands that are not temporary are the same.
 pub record KeepsCell (n m : Netlist) (c d : Cell) : Type 0 where
   pub op : d.op ≡ c.op
   pub count : length d.operands ≡ length c.operands

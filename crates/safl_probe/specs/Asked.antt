@@ -36,8 +36,8 @@ abbrev pub probe_at : List ProbeState → ℕ → ProbeState
 probe_at ps i = get_or ps i (fresh 0)
 
 -- no probe has begun
-abbrev pub NoneBegun : {P : Type 0} → (P → ProbeState) → List P → Type 0
-NoneBegun tell ps = (i : ℕ) → IsWaiting (probe_at (map tell ps) i)
+abbrev pub Unbegun : {P : Type 0} → (P → ProbeState) → List P → Type 0
+Unbegun tell ps = (i : ℕ) → IsWaiting (probe_at (map tell ps) i)
 
 -- probes that are not asked are as they were
 abbrev pub SameUnasked : {P : Type 0} → Asked → List P → List P → Type 0

@@ -12,13 +12,11 @@ pub use Rattle.safl_word.specs.Lists.{Text}
 
 -- ---- VCD
 
--- The code of watched signal i: the digits of i in base 94, at least one, the lowest first. Each is written as the character 33
--- plus the digit.
+-- The code of watched signal i: the digits of i in base 94, at least one, the lowest first. Digit d is written as character 33 + d.
 unfoldable pub code : ℕ → Text
 code i = if i == 0 then codes "!" else map (λ d. 33 + d) (reverse (digits_of 94 i))
 
--- The line with a number of signal i. A number of one bit is its digit and the code; any other is `b`, as few binary digits as
--- possible, a space and the code.
+-- The line with a number of signal i: of one bit, its digit and the code; of any other, `b`, its binary digits, a space and the code.
 abbrev pub value_text : ℕ → ℕ → ℕ → Text
 value_text i width number = (if width == 1 then binary number else codes "b" ++ binary number ++ codes " ") ++ code i ++ codes "\n"
 

@@ -23,8 +23,7 @@ pub record Watched : Type 0 where
   pub signal : ℕ
   pub width : ℕ
 
--- whether a signal is in a group: the inputs; the registers; the wires whose name does not begin with `n$`; the wires whose name
--- begins with `go$`
+-- whether a signal is in a group: inputs; registers; wires whose name does not begin with `n$`; wires whose name begins with `go$`
 abbrev pub belongs : Group → SigKind → List ℕ → Bool
 belongs Inputs Input name = true
 belongs Registers Reg name = true

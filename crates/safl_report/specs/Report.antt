@@ -36,8 +36,7 @@ site_report C D kept =
     concat (map (λ (k : ℕ). codes "site " ++ decimal k ++ codes " " ++ D.name (C.callee k) ++ codes " in " ++ D.name (C.caller k)
     ++ codes " kept " ++ answer_word (kept k) ++ codes "\n") (range_with_len 1 C.sites))
 
--- The text is the report of a netlist and of the program's only plan, which says which units need an arbiter and which sites keep
--- their words.
+-- The text is the report of a netlist and of the program's plan, which says which units need an arbiter and which sites keep words.
 pub record IsReport (C : Program) (D : Names) (n : Netlist) (text : Text) : Type 0 where
   pub arbiter : ℕ → Bool
   pub kept : ℕ → Bool

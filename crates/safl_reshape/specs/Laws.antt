@@ -22,8 +22,7 @@ pub record IsAlike (C B : Program) : Type 0 where
   pub gives : (args : List Word) (v : Word) (d : Main C args v) → AreWordsOf args (C.params C.main) → (e : Main B args v) × (main_cost B args e ≡ main_cost C args d)
   pub only : (args : List Word) (v : Word) (e : Main B args v) → AreWordsOf args (C.params C.main) → (d : Main C args v) × (main_cost B args e ≡ main_cost C args d)
 
--- Main gives the same in B as in C, in one call less for each time that it makes the call of site k in C. A cost is never 0,
--- since the application of main counts too.
+-- Main gives the same in B as in C, in one call less for each time that C makes the call of site k. A cost counts main: it is never 0.
 pub record Spares (k : ℕ) (C B : Program) : Type 0 where
   pub params : B.params B.main ≡ C.params C.main
   pub gives : (args : List Word) (v : Word) (d : Main C args v) → AreWordsOf args (C.params C.main)

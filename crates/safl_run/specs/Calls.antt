@@ -6,8 +6,7 @@ use Rattle.safl_net.specs.Valuations.{Valuation, read_output, next_state, reset_
 use Rattle.safl_sim.specs.Outcomes.{IsCallRun, NotDoneBefore, output_word}
 use Rattle.safl_sim.specs.declared.done.Done.{Done}
 
--- The reply to a call from a state. Its cycle is the first with `done`, and is below the limit; its word is the result in that
--- cycle. Also the state after that cycle.
+-- The reply to a call from a state: the first cycle with `done`, below the limit, and the result then; and the state after that cycle.
 pub record Replies (n : Netlist) (limit : ℕ) (state : ℕ → ℕ) (args : List Word) (r : Done) (after : ℕ → ℕ) : Type 0 where
   pub in_time : r.cycle < limit
   pub before : List Valuation

@@ -29,8 +29,7 @@ abbrev pub StartsQuiet : Program → Names → Netlist → List Valuation → Ty
 StartsQuiet C D n [] = Unit {0}
 StartsQuiet C D n (v ∷ vs) = Quiet (registers_now C D n v)
 
--- From a state, one call after another: the registers are quiet in the first cycle of each, its reply is main's, and the cycle of
--- the reply leaves them quiet.
+-- From a state, call after call: the registers are quiet in its first cycle, its reply is main's, and they are quiet again after it.
 abbrev pub Serves : Program → Names → Netlist → ℕ → (ℕ → ℕ) → List (List Word) → List Reply → Type 0
 Serves C D n limit state [] [] = Unit {0}
 Serves C D n limit state [] (r ∷ rs) = ⊥

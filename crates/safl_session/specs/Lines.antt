@@ -43,8 +43,7 @@ pub data ScriptFault : Type 0 where
   Count : (line given : ℕ) → ScriptFault
   Argument : (line place : ℕ) → ScriptFault
 
--- The line has this fault: its number of words, which is not that of the widths; or otherwise the number of the first word that is
--- no argument of its width.
+-- The line has this fault: its number of words, if that is not the number of widths; else the first word that is no argument.
 abbrev pub HasScriptFault : List ℕ → List ℕ → ℕ → ScriptFault → Type 0
 HasScriptFault widths line number (Count l given) =
     (l ≡ number) × ((words : List (List ℕ)) × HasWords line words × (length words ≡ given) × (given ≢ length widths))

@@ -7,8 +7,7 @@ use Rattle.safl_net.specs.Valuations.{Valuation, signal_word, read_output, reset
 use Rattle.safl_net.specs.Runs.{RunFrom, input_numbers}
 use Rattle.safl_sim.specs.declared.done.Done.{Done}
 
--- the cycles of a call from a state: in the first one `start` is 1 and the other inputs have the arguments; later all inputs are
--- 0
+-- the cycles of a call from a state: in the first one `start` is 1 and the arguments are given; later all inputs are 0
 pub record IsCallRun (n : Netlist) (state : ℕ → ℕ) (args : List Word) (vs : List Valuation) : Type 0 where
   pub run : RunFrom n state (map (λ (w : Word). w.bits) args) vs
   pub zeros : (c : ℕ) (v : Valuation) → slice_get vs (suc c) ≡ Some v → input_numbers n.signals v ≡ map (λ (w : Word). 0) args

@@ -1,6 +1,6 @@
 //! The table of what reads each place.
 
-ghost use Rattle.std.specs.Prelude.{◌≡◌, ℕ, ◌+◌, ◌^◌, ◌<◌, List, length, slice_get, Some, IfOk};
+ghost use Rattle.std.specs.Prelude.{◌≡◌, ℕ, ◌+◌, ◌^◌, ◌<◌, ◌≤◌, List, length, slice_get, Some, IfOk, OnErr};
 ghost use Rattle.safl_net.specs.Netlist.{AllSet};
 ghost use Rattle.safl_net.specs.Rules.{IsNetlist};
 ghost use Rattle.safl_net.specs.Making.{numbers};
@@ -124,7 +124,8 @@ fn flatten(alloc: Global, lists: &Chains, count: u32) -> Result<Table, AllocErro
 
 // A number in 32 bits. A larger table would not fit into memory.
 fn narrowed(number: usize) -> Result<u32, AllocError>
-    ensures { IfOk result (λ k. k ≡ number) }
+    ensures number { IfOk result (λ k. k ≡ number) }
+    ensures large { OnErr result (2 ^ 32 ≤ number) }
 {
     if number > 0xFFFF_FFFF {
         return Err(AllocError);

@@ -4,8 +4,7 @@ use Rattle.safl_term.specs.Program.{Program, unit_for}
 use Rattle.safl_term.specs.Terms.{Term, Terms, Op, If, Let, Call, Loop, Nil, Cons}
 use Rattle.safl_term.specs.Standing.{Stands}
 
--- Site k is in reach of a term: it is in the term, or in reach of the body of a function in a group that the term calls. A loop
--- adds nothing but the sites in its arguments.
+-- Site k is in reach of a term: in it, or in reach of the body of a function in a group that it calls. A loop adds what its arguments add.
 pub data Reaches (C : Program) (k : ℕ) : Term → Type 0 where
   Here : {t : Term} → Stands k t → Reaches C k t
   Through : {t : Term} (a g : ℕ) → Stands a t → g < C.functions → C.unit g ≡ C.unit (C.callee a) → Reaches C k (C.body g) → Reaches C k t

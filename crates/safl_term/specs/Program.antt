@@ -2,9 +2,8 @@
 use Rattle.std.specs.Prelude.{ℕ, List, length}
 use Rattle.safl_term.specs.Terms.{Term}
 
--- Functions are numbered from 0 in the order of the text, and sites from 1. Site 0 is the call of main from outside.
--- A unit is a group of functions that tail-call one another; its number is that of its first function.
--- A function that does not exist has unit 0, and a constant as its body.
+-- Functions are numbered from 0 in the order of the text, sites from 1; site 0 is the call of main from outside. A unit is a group of
+-- functions that tail-call one another, and has the number of its first. No function: unit 0, and a constant as its body.
 pub record Program : Type 0 where
   pub functions : ℕ
   pub sites : ℕ

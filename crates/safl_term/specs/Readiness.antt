@@ -55,9 +55,8 @@ unfoldable mutual
   answers back env (Cons t ts) = both (answer back env t) (answers back env ts)
 
 unfoldable mutual
-  -- The words with which the term wants site k: the call has its path, and its arguments are ready. A part has the path of its
-  -- term. But a branch of an if has it only if the condition is ready and selects the branch, and the body of a let only if all
-  -- bindings are ready.
+  -- The words with which the term wants site k: the call has its path, and its arguments are ready. A part has the path of its term. But a
+  -- branch has it only if the condition is ready and selects it, and the body of a let only if all bindings are ready.
   pub wanted : (ℕ → Option Word) → List Word → Term → ℕ → Option (List Word)
   wanted back env (Op p ts) k = wanted_in back env ts k
   wanted back env (If c a b) k = option_or (wanted back env c k) (select (answer back env c) None (wanted back env a k) (wanted back env b k))

@@ -5,8 +5,7 @@ use Rattle.safl_tool.specs.Lines.{count_line, argument_line}
 use Rattle.safl_task.specs.declared.status.Status.{Status}
 use Rattle.safl_task.specs.declared.status.Status.TheVariants as status
 
--- The arguments do not fit parameters of these widths, and the line says why: there are more or fewer, or otherwise the first that
--- is no number of its width.
+-- The arguments do not fit parameters of these widths, and the line says why: more or fewer, or else the first that does not fit.
 abbrev pub HaveFault : List ℕ → List (List ℕ) → List ℕ → Type 0
 HaveFault widths args line =
     ((¬ (length args ≡ length widths)) × (line ≡ count_line (length widths) (length args)))

@@ -44,8 +44,7 @@ abbrev pub IsMisscripted : List ℕ → List ℕ → List ℕ → Type 0
 IsMisscripted source script line = (C : Program) × (D : Names) × (fault : ScriptFault) × IsSourceOf source C D
     × IsScriptFault (C.params C.main) script fault × (line ≡ script_line (C.params C.main) fault)
 
--- The source spells a program, and main gives a value for the words of each line, with the last cycle in which `done` may come
--- below the limit.
+-- The source spells a program, and main gives a value for the words of each line; the last cycle for `done` is below the limit.
 abbrev pub EvaluatesEach : List ℕ → List ℕ → ℕ → Type 0
 EvaluatesEach source script limit = (C : Program) × (D : Names) × (calls : List (List Word)) × IsSourceOf source C D
     × IsScript (C.params C.main) script calls × All (IsInTime C limit) calls

@@ -153,8 +153,7 @@ abbrev pub traces_in : Command → Traces
 traces_in (Sim input limit traces args) = traces
 traces_in _ = record { vcd = None; starts = None; toggles = None }
 
--- The task of the words of a command line, with probes of these kinds. Words that form no command are refused, and so is a
--- command with a file for traces that no probe can write.
+-- The task of a command line, with probes of these kinds. Words that are no command are refused, and so is a trace that none can write.
 abbrev pub task_of : List ℕ → Option Command → Task
 task_of kinds None = usage_task
 task_of kinds (Some m) = cond (have_probes (traces_in m) kinds) (command_task m) usage_task

@@ -21,8 +21,7 @@ SayBuild input output words = IsPlain input × IsPlain output
     × ((words ≡ codes "build" ∷ input ∷ output ∷ []) ⊎ ((words ≡ codes "build" ∷ input ∷ output ∷ codes "--opt" ∷ [])
     ⊎ ((words ≡ codes "build" ∷ input ∷ codes "--opt" ∷ output ∷ []) ⊎ (words ≡ codes "build" ∷ codes "--opt" ∷ input ∷ output ∷ []))))
 
--- the source is that of a program and has at most 1,048,576 bytes, the text reads as a netlist, and the netlist is correct for the
--- program
+-- the source is that of a program, in at most 1,048,576 bytes; the text reads as a netlist, which is correct for the program
 pub record IsBuilt (source text : List ℕ) : Type 0 where
   pub short : length source ≤ source_max
   pub program : Program

@@ -47,8 +47,7 @@ Checks words shelf s out o o' status =
 
 -- ---- `sim IN --cycles L [--vcd F1] [--starts F2] [--toggles F3] [ARG..]`
 
--- the source is that of a program, the arguments are words for main's parameters, and the text tells main's value and the cycle in
--- which it came
+-- the source is that of a program, the arguments are words for main, and the text tells main's value and the cycle in which it came
 abbrev pub IsSimulated : List (List ℕ) → List ℕ → List ℕ → Type 0
 IsSimulated args source text = (C : Program) × (D : Names) × (words : List Word) × (value : Word) × (cycle : ℕ) × IsSourceOf source C D
     × AreArguments (C.params C.main) args words × IsExactResult C words value cycle × (text ≡ done_lines value.bits cycle)
@@ -62,8 +61,7 @@ SimPrints words shelf s out o o' status =
 
 -- ---- `session IN SCRIPT --cycles L`
 
--- The source is that of a program, the script has these calls of main, and the text has a line for the reply to each, which is main's
--- value and the cycle in which it came.
+-- The source is that of a program, the script has these calls of main, and each has a line of the text with main's value and its cycle.
 abbrev pub IsSession : List ℕ → List ℕ → List ℕ → Type 0
 IsSession source script text = (C : Program) × (D : Names) × (calls : List (List Word)) × (replies : List Reply) × IsSourceOf source C D
     × IsScript (C.params C.main) script calls × AllZip (IsMainReply C) calls replies × (text ≡ flat_map reply_line replies ++ calls_line (length calls))

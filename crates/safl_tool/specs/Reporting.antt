@@ -39,8 +39,7 @@ pub record HasHead (C : Program) (n : Netlist) (head : List ℕ) : Type 0 where
   pub is_summary : IsSummary C n summary
   pub is : head ≡ program_lines C.functions C.sites ++ summary
 
--- what a run of the circuit of the source's program with these arguments shows, after the numbers of the program and the summary of
--- its plan
+-- what a run of the program's circuit with these arguments shows, after the numbers of the program and of its plan
 pub record Measures (source : List ℕ) (args : List (List ℕ)) (limit : ℕ) (head : List ℕ) (answer : Option Done) : Type 0 where
   pub simulates : Simulates source args limit answer
   pub begins : HasHead simulates.program simulates.net head

@@ -31,8 +31,7 @@ pub record IsRunnable (text : List ℕ) (n : Netlist) : Type 0 where
 abbrev pub RunsText : List ℕ → List (List ℕ) → ℕ → Option Done → Type 0
 RunsText text args limit answer = (n : Netlist) × IsRunnable text n × GivesOutcome n args limit answer
 
--- The Verilog file with this name reads as no netlist without a combinational loop, and the line says why: the first fault of the
--- text, or a loop of the netlist that it reads as.
+-- The Verilog file reads as no netlist without a combinational loop, and the line says why: the text's first fault, or the loop.
 pub data IsUnrunnable (name text line : List ℕ) : Type 0 where
   faulty : (f : VFault) → HasFault text f → line ≡ placed_line name (line_at text f.place) (column_at text f.place) (vfault_text f)
       → IsUnrunnable name text line

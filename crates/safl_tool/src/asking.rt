@@ -2,7 +2,7 @@
 
 ghost use Rattle.std.specs.Prelude.{◌≡◌, IfOk, map, option_map, string_bytes};
 ghost use Rattle.safl_command.specs.Traces.{files, shown_traces};
-ghost use Rattle.safl_probe.specs.Asked.{NoneBegun};
+ghost use Rattle.safl_probe.specs.Asked.{Unbegun};
 ghost use Rattle.safl_probe.specs.Watching.{kind_of};
 ghost use Rattle.safl_tool.specs.Asking.{shown_name, traces_given, is_any_given, AsksFor};
 ghost use Rattle.safl_tool.specs.Tracing.{file_of_kind, without};
@@ -18,7 +18,7 @@ pub fn asked_files(
     traces: Option<&Traces>,
     probes: &[Box<dyn Probe>],
 ) -> Result<Option<Vec<Option<String>>>, AllocError>
-    requires { NoneBegun state probes.now }
+    requires { Unbegun state probes.now }
     ensures { IfOk result (AsksFor (traces_given traces.entry) (map (λ p. state p) probes.now)) }
 {
     let mut vcd = copy_of(alloc, traces, TraceKind::Vcd)?;

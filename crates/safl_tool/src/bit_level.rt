@@ -1,12 +1,14 @@
 //! The commands `aig FILE OUT` and `aigstat FILE`: bit-level circuits and their sizes.
 
-ghost use Rattle.std.specs.Prelude.{◌≤◌, IfOk, IfErr, length};
+ghost use Rattle.std.specs.Prelude.{◌≡◌, ℕ, ◌≤◌, IfOk, IfErr, length};
 ghost use Rattle.safl_aig.specs.BitLevel.{IsRefused};
+ghost use Rattle.safl_aig.specs.declared.conversion.BlastErr.TheVariants as blast;
 ghost use Rattle.safl_tool.specs.Answers.{printed};
 ghost use Rattle.safl_task.specs.Tasks.{only_writes};
 ghost use Rattle.safl_tool.specs.BitLevel.{GivesBits, GivesCounts, RefusesAig, RefusesBitsOf, RefusesNetlist};
 ghost use Rattle.safl_task.specs.Limits.{aig_max, verilog_max};
 ghost use Rattle.safl_tool.specs.Refusals.{RefusesBy};
+ghost use Rattle.safl_tool.specs.declared.refusal.Refusal.TheVariants as refusals;
 
 use crate::answer::Lines;
 use crate::refusal::Refusal;
@@ -31,7 +33,8 @@ pub fn aig_text<'a>(alloc: Global, name: &'a str, text: &[u8]) -> Result<Vec<u8>
 // The refusal of a net that has no bit-level circuit.
 fn refusal_of_net<'a>(alloc: Global, net: &Net, error: BlastErr) -> Refusal<'a>
     requires { IsRefused net.now error }
-    ensures { RefusesBy (RefusesNetlist net.now) result }
+    ensures refuses { RefusesBy (RefusesNetlist net.now) result }
+    ensures heavy { (weight : ℕ) → error ≡ blast.TooLarge weight → result ≡ refusals.Heavy weight }
 {
     match error {
         BlastErr::InitNotZero(register) => match String::from_str(alloc, net.name(register)) {

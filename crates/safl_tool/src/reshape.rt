@@ -1,6 +1,7 @@
 //! The command `reshape IN OUT --copy K | --unfold K`: a source with a function copied or a call unfolded.
 
 ghost use Rattle.std.specs.Prelude.{◌≡◌, ◌≤◌, ◌<◌, IfOk, IfErr, IfSome, IsNone, OnOk, length};
+ghost use Rattle.safl_reshape.specs.declared.error.ReshapeErr.TheVariants as errors;
 ghost use Rattle.safl_tree.specs.Printable.{IsPrintable};
 ghost use Rattle.safl_tree.specs.Printed.{printed};
 ghost use Rattle.safl_tree.specs.Shown.{shown_program};
@@ -8,6 +9,7 @@ ghost use Rattle.safl_task.specs.Tasks.{only_writes};
 ghost use Rattle.safl_tool.specs.CommandTasks.{RefusesReshaping};
 ghost use Rattle.safl_word.specs.Limits.{source_max, count_max};
 ghost use Rattle.safl_tool.specs.Refusals.{RefusesBy};
+ghost use Rattle.safl_tool.specs.declared.refusal.Refusal.TheVariants as refusals;
 ghost use Rattle.safl_tool.specs.Reshaping.{GivesReshaped, HasReason, limit_text, TellsReason, TellsLong, copies, unfolds};
 
 use crate::refusal::Refusal;
@@ -92,7 +94,8 @@ fn site_number(site: u64) -> Option<u32>
 }
 
 fn refusal_of<'a>(site: u64, error: ReshapeErr) -> Refusal<'a>
-    ensures { RefusesBy (TellsReason site error) result }
+    ensures tells { RefusesBy (TellsReason site error) result }
+    ensures memory { result ≡ refusals.NoMemory → error ≡ errors.NoMemory }
 {
     match reason(error) {
         Some(text) => Refusal::Site(site, text),
@@ -102,7 +105,8 @@ fn refusal_of<'a>(site: u64, error: ReshapeErr) -> Refusal<'a>
 
 // Why a site cannot be reshaped, in words. None stands for out of memory.
 fn reason(error: ReshapeErr) -> Option<&'static str>
-    ensures { IfSome result (λ text. HasReason error text.now) }
+    ensures text { IfSome result (λ text. HasReason error text.now) }
+    ensures none { IsNone result → error ≡ errors.NoMemory }
 {
     match error {
         ReshapeErr::NoSite => Some("no such site"),

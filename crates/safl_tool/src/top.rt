@@ -2,7 +2,7 @@
 
 ghost use Rattle.std.specs.Prelude.{map, option_map, string_bytes};
 ghost use Rattle.safl_command.specs.Commands.{command_of, shown_command};
-ghost use Rattle.safl_probe.specs.Asked.{NoneBegun};
+ghost use Rattle.safl_probe.specs.Asked.{Unbegun};
 ghost use Rattle.safl_tool.specs.Changes.{AttendedOn, AttendsOn, DoesOn, EndsOn, FollowsOn, SparesOn};
 ghost use Rattle.safl_tool.specs.Headline.{Builds};
 ghost use Rattle.safl_tool.specs.Promises.{Checks, SimPrints, SessionPrints, Converts};
@@ -35,7 +35,7 @@ pub fn run<S: Shelf, O: Sink, E: Sink>(
     probes: &mut Vec<Box<dyn Probe>>,
 ) -> Status
     // No probe was begun before.
-    requires { NoneBegun state probes.old.items }
+    requires { Unbegun state probes.old.items }
 
     // Where `build IN OUT` ends with Ok, OUT reads as a netlist that is correct for the program whose source IN held.
     ensures headline { Builds words.now S.told shelf.old shelf.new result }
@@ -72,7 +72,7 @@ fn dispatch<S: Shelf, O: Sink, E: Sink>(
     err: &mut E,
     probes: &mut Vec<Box<dyn Probe>>,
 ) -> Status
-    requires { NoneBegun state probes.old.items }
+    requires { Unbegun state probes.old.items }
     ensures ends { EndsOn words.now S.told shelf.old shelf.new O.told out.old out.new E.told err.old err.new state probes.old probes.new result }
     ensures spares { SparesOn (command_of (map string_bytes words.now)) S.told shelf.old shelf.new O.told out.old out.new state probes.old probes.new }
     ensures attended { AttendedOn words.now S.told shelf.old state probes.old probes.new result }
@@ -95,7 +95,7 @@ fn obey<'a, S: Shelf, O: Sink>(
     out: &mut O,
     probes: &mut Vec<Box<dyn Probe>>,
 ) -> Result<Status, Refusal<'a>>
-    requires { NoneBegun state probes.old.items }
+    requires { Unbegun state probes.old.items }
     ensures does { DoesOn (option_map shown_command command.now) S.told shelf.old shelf.new O.told out.old out.new state probes.old probes.new result }
     ensures spares { SparesOn (option_map shown_command command.now) S.told shelf.old shelf.new O.told out.old out.new state probes.old probes.new }
     ensures attends { AttendsOn (option_map shown_command command.now) S.told shelf.old state probes.old probes.new result }

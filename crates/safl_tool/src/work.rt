@@ -2,7 +2,7 @@
 
 ghost use Rattle.std.specs.Prelude.{◌≡◌, IfOk, IfErr, None, Some, map};
 ghost use Rattle.safl_command.specs.Commands.{shown_command};
-ghost use Rattle.safl_probe.specs.Asked.{asked, NoneBegun};
+ghost use Rattle.safl_probe.specs.Asked.{asked, Unbegun};
 ghost use Rattle.safl_task.specs.Inputs.{shown_inputs, shown_contents};
 ghost use Rattle.safl_task.specs.Tasks.{AreContents};
 ghost use Rattle.safl_tool.specs.Answers.{Answers, traces_for};
@@ -42,7 +42,7 @@ pub fn perform<'a, S: Shelf, O: Sink>(
     out: &mut O,
     probes: &mut Vec<Box<dyn Probe>>,
 ) -> Result<Status, Refusal<'a>>
-    requires { NoneBegun state probes.old.items }
+    requires { Unbegun state probes.old.items }
     ensures does { DoesOn (Some (shown_command command.now)) S.told shelf.old shelf.new O.told out.old out.new (λ p. state p) probes.old probes.new result }
     ensures spares { SparesOn (Some (shown_command command.now)) S.told shelf.old shelf.new O.told out.old out.new (λ p. state p) probes.old probes.new }
     ensures attends { AttendsOn (Some (shown_command command.now)) S.told shelf.old (λ p. state p) probes.old probes.new result }

@@ -81,8 +81,7 @@ is_binary (prims.Bits h l) = false
 is_binary (prims.Ext n) = false
 is_binary _ = true
 
--- How many layers of operators may stand right of an operator without parentheses: those below its own. With 8 layers any
--- expression may.
+-- How many layers of operators may stand right of an operator without parentheses: those below its own. With 8 any expression may.
 abbrev pub right_context : Primitive → ℕ
 right_context o = layer_of o
 
@@ -94,8 +93,7 @@ left_context o = if is_binary o && not (layer_of o == 3) then suc (layer_of o) e
 abbrev pub below_of : Primitive → ℕ
 below_of o = if is_binary o then 0 else 1
 
--- How many layers a context needs for an expression without parentheses. An if, a let and a case need 8, and an operator between
--- operands its own layer and those below it.
+-- How many layers an expression needs without parentheses. An if, let and case need 8, an operator its own layer and those below.
 abbrev pub layers_of : Tree → ℕ
 layers_of (If p c a b) = 8
 layers_of (Let p bs t) = 8

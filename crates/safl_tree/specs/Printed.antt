@@ -72,8 +72,7 @@ abbrev mutual
   words (Op p o ts) = applied o (part_words (left_context o) (right_context o) ts)
   words (Call p f ts) = name f ∷ (sym syms.OpenParen ∷ (separated (sym syms.Comma) (part_words 8 8 ts) ++ (sym syms.CloseParen ∷ [])))
 
-  -- the words of operands, the first in a context of this many layers, and the others in one of this many. They have parentheses if
-  -- they need more layers
+  -- the words of operands: the first in a context of so many layers, the others of so many; in parentheses if they need more layers
   pub part_words : ℕ → ℕ → Trees → List (List PrintedToken)
   part_words k right no_tree = []
   part_words k right (a_tree t ts) = enclosed (nat_le (layers_of t) k) (words t) ∷ part_words right right ts

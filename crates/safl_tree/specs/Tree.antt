@@ -87,8 +87,7 @@ with_place q (Cases p e arms) = Cases q e arms
 with_place q (Op p o ts) = Op q o ts
 with_place q (Call p f ts) = Call q f ts
 
--- The depth of an expression. Numbers, variables, and calls without arguments have depth 1; any other expression is one deeper
--- than its deepest part.
+-- The depth of an expression: 1 for numbers, variables, and calls without arguments; any other is one deeper than its deepest part.
 abbrev mutual
   pub depth : Tree → ℕ
   depth (If p c a b) = 1 + max (depth c) (max (depth a) (depth b))
@@ -106,8 +105,7 @@ abbrev mutual
   deepest_bind no_bind = 0
   deepest_bind (a_bind p x w t bs) = max (depth t) (deepest_bind bs)
 
-  -- The depth of the arms of a case. A case stands for a let of its selecting value over an if for each arm, whose test has depth
-  -- 2.
+  -- The depth of the arms of a case: a let of its value over an if for each arm, whose test has depth 2.
   pub deepest_arm : Arms → ℕ
   deepest_arm (default_arm t) = depth t
   deepest_arm (an_arm l t arms) = 1 + max 2 (max (depth t) (deepest_arm arms))

@@ -96,8 +96,7 @@ AreShallow ds = AllByRecursion (λ d. depth d.body ≤ depth_max) ds
 abbrev pub param_names : Definition → List (List ℕ)
 param_names d = map (λ p. p.name) d.params
 
--- A definition of group u has this form, in a program with these heads. The sites below lo belong to the functions before it, and
--- those from hi on to the functions after it.
+-- A definition of group u has this form under these heads. Sites below lo are those of functions before it, from hi on of those after it.
 pub record IsFunctionOf (all : List Head) (u lo hi : ℕ) (d : Definition) (f : FunctionForm) : Type 0 where
   pub name : f.name ≡ d.name
   pub params : f.params ≡ params_of d

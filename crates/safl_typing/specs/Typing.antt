@@ -50,9 +50,8 @@ abbrev pub Shifts : ℕ → Expressions → List ℕ → Type 0
 Shifts w (an_expression e es) (v ∷ vs) = (flexible e ≡ false) × (v ≡ w) × RigidOr w es vs
 Shifts w es vs = ⊥
 
--- Operands with widths vs suit the operator, whose result then has width w. Either all have width w; or it is a comparison, w is
--- 1, and all have one width, at least one of them rigid; or it is a shift; or the operands are rigid and the table of widths has
--- a row for them.
+-- Operands with widths vs suit the operator, whose result then has width w. Either all have width w; or it is a comparison, w is 1, and all
+-- have one width, at least one rigid; or it is a shift; or they are rigid and the table of widths has a row.
 abbrev pub Suits : Shape → Primitive → Expressions → List ℕ → ℕ → Type 0
 Suits Alike o es vs w = AllByRecursion (λ (v : ℕ). v ≡ w) vs
 Suits Comparing o es vs w = (w ≡ 1) × (u : ℕ) × AllByRecursion (λ (v : ℕ). v ≡ u) vs × (all_flexible es ≡ false)
@@ -66,9 +65,8 @@ Calls (Member i h) tail lo m ws us w t = (tail ≡ true) × (m ≡ lo) × (ws �
 Calls (Above i h) tail lo m ws us w t = (m ≡ suc lo) × (ws ≡ map (λ p. p.width) h.params) × (h.width ≡ w) × (t ≡ terms.Call i lo us)
 Calls Unknown tail lo m ws us w t = ⊥
 
--- In a body that sees the functions of k, with slots s, the expression has width w and term t. Its sites are those from lo up to,
--- but not including, hi, in the order of the text. The branches of an if and the body of a let are in tail position if it is; no
--- other part is.
+-- In a body that sees the functions of k, with slots s, the expression has width w and term t, and in the order of the text the sites from
+-- lo up to, but not including, hi. The branches of an if and the body of a let are in tail position if it is, no other part.
 abbrev mutual
   pub Has : Known → List Slot → Bool → ℕ → ℕ → Expression → ℕ → Term → Type 0
   Has k s tail lo hi (Number p n) w t = (lo ≡ hi) × IsWord (as_word w n) × (t ≡ Const (as_word w n))

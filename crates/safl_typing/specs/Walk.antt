@@ -197,8 +197,7 @@ abbrev pub limit : ℕ → ℕ → Option ℕ → Option Fault
 limit number value None = None
 limit number value (Some p) = Some (fault_with rules.E16 p number value)
 
--- the first definition that passes a limit. The first definition is function n, u is the group before it, and this many sites
--- and nodes come before it
+-- the first definition that passes a limit; the first is function n, u is the group before it, and so many sites and nodes come before
 abbrev pub limits_from : List Head → ℕ → ℕ → ℕ → ℕ → List Definition → Option Fault
 limits_from all n u placed_sites placed_nodes [] = None
 limits_from all n u placed_sites placed_nodes (d ∷ ds) =

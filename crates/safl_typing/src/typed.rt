@@ -1,6 +1,6 @@
 //! Results of checking an expression: a width with a term, or a fault.
 
-ghost use Rattle.std.specs.Prelude.{◌≡◌, ℕ, ◌<◌, ◌^◌, ◌&&◌, length, IfOk};
+ghost use Rattle.std.specs.Prelude.{◌≡◌, ◌≢◌, ℕ, ◌<◌, ◌^◌, ◌&&◌, length, Err, IfOk};
 ghost use Rattle.safl_term.specs.Slots.{HasSlots};
 ghost use Rattle.safl_term.specs.Tree.{shown_term};
 ghost use Rattle.safl_typing.specs.Typing.{innermost};
@@ -112,6 +112,7 @@ pub fn as_operand(shifted: Option<u8>, flexible: bool) -> Wanted
 pub fn settled(place: u32, wanted: Wanted, width: u8, term: Term) -> Result<Typed, CheckErr>
     ensures says { Says result (settle place (shown_wanted wanted) width (shown_term term)) }
     ensures slots { IfOk result (λ t. (n : ℕ) → HasSlots n term → HasSlots n t.term) }
+    ensures memory { result ≢ Err errors.NoMemory }
 {
     match wanted {
         Wanted::Any => Ok(Typed { width, term }),
@@ -129,6 +130,7 @@ pub fn typed_number(place: u32, value: Raw, wanted: Wanted) -> Result<Typed, Che
     requires { HasWideWanted wanted }
     ensures says { Says result (check_number place value (shown_wanted wanted)) }
     ensures slots { IfOk result (λ t. (n : ℕ) → HasSlots n t.term) }
+    ensures memory { result ≢ Err errors.NoMemory }
 {
     match wanted {
         Wanted::Any => Err(refused(Rule::E14, place)),
@@ -147,6 +149,7 @@ pub fn typed_sized(place: u32, width: u8, value: Raw, wanted: Wanted) -> Result<
     requires { HasWidthOfWord width }
     ensures says { Says result (sized place width value (shown_wanted wanted)) }
     ensures slots { IfOk result (λ t. (n : ℕ) → HasSlots n t.term) }
+    ensures memory { result ≢ Err errors.NoMemory }
 {
     match Word::new(width, value) {
         Some(word) => settled(place, wanted, width, Term::Const(word)),
@@ -164,6 +167,7 @@ pub fn typed_variable(
     requires { length (shown_scope scope.now) < 2 ^ 32 }
     ensures says { Says result (variable place (shown_wanted wanted) (innermost name.now 0 (shown_scope scope.now))) }
     ensures slots { IfOk result (λ t. (n : ℕ) → HasSlots n t.term) }
+    ensures memory { result ≢ Err errors.NoMemory }
 {
     match find_variable(scope, name) {
         Some(found) => settled(place, wanted, found.width, Term::Var(found.slot)),

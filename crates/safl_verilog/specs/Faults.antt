@@ -117,8 +117,7 @@ range_width o = option_map_or (λ (r : Spot × Spot). value 10 r.0.bytes + 1) o 
 abbrev pub width_declared : List Declaration → List ℕ → ℕ
 width_declared ds name = option_map_or (λ (d : Declaration). range_width d.range) (find ds name) 0
 
--- the ports that each file has: `clk`, `rst` and `start` are inputs of width 1, `done` is an output of width 1, and `result` is
--- an output
+-- the ports of each file: `clk`, `rst` and `start` are inputs of width 1, `done` is an output of width 1, `result` is an output
 abbrev pub has_bit : List Declaration → (Sort → Bool) → List ℕ → Bool
 has_bit ds p name = passes (λ d. p d.sort && (range_width d.range == 1)) (find ds name)
 
@@ -183,8 +182,7 @@ updated (Always clock reset target initial second source ∷ ss) name = if bytes
 abbrev pub width_faults : ℕ → ℕ → ℕ → List VFault
 width_faults place wanted found = where_not (wanted == found) (record { rule = rules.V05; place = place; first = wanted; second = found })
 
--- An assignment may have a wire or an output as its target, once, and to an output it may assign only a name. An update is one of
--- a register, by the clock and the reset, once.
+-- An assignment sets a wire or an output, once, and an output to a name. An update sets a register, by clock and reset, once.
 abbrev pub statement_faults : List Declaration → List Statement → Statement → List VFault
 statement_faults ds before (Assign x e) =
     where_not (passes is_target (find ds x.bytes)) (at rules.V04 x.place)
@@ -206,8 +204,7 @@ abbrev pub all_statement_faults : List Declaration → List Statement → List S
 all_statement_faults ds before [] = []
 all_statement_faults ds before (s ∷ ss) = statement_faults ds before s ++ all_statement_faults ds (before ++ s ∷ []) ss
 
--- all faults of a file: of numbers and ranges, names, ports, statements, and of what is missing: wires and outputs without an
--- assignment, and registers without an update
+-- all faults of a file: of numbers, names, ports, statements, and of wires, outputs and registers that get nothing
 unfoldable pub faults : File → List VFault
 faults f =
     (flat_map (λ (d : Declaration). range_faults d.range) f.declarations ++ flat_map stated_number_faults f.statements)

@@ -20,8 +20,7 @@ declared_place (d ∷ ds) name = if bytes_eq d.name.bytes name then 0 else suc (
 abbrev pub signal_number : List Declaration → List ℕ → ℕ
 signal_number ds name = declared_place (signals_of ds) name
 
--- the kind of a signal. An input is free, a register has the number and the next signal of its update, and a wire has what it is
--- assigned
+-- the kind of a signal: an input is free, a register has the number and the next signal of its update, a wire what it is assigned
 abbrev pub signal_kind : File → Sort → List ℕ → Kind
 signal_kind f sorts.Reg name =
     option_map_or (λ (u : Spot × Spot). Reg (literal_value u.0.bytes) (Some (signal_number f.declarations u.1.bytes))) (updated f.statements name) (Reg 0 None)

@@ -22,8 +22,7 @@ pub record Reads (text : List ℕ) (n : Netlist) : Type 0 where
   pub kept : faults file ≡ []
   pub means : netlist file ≡ n
 
--- The first fault of the bytes; if there is none, of the tokens, at the first one such that the tokens up to it begin no file, or at the
--- end; if there is none, of the file.
+-- The first fault of the bytes; else of the tokens, at the first one with which they begin no file, or at the end; else of the file.
 pub data HasFault (text : List ℕ) (f : VFault) : Type 0 where
   lexical : (place : ℕ) → HasVerilogLexicalFault text place → f ≡ at rules.V01 place → HasFault text f
   unexpected : (ts rest : List VerilogTerminal) (e : Rule) → HasVerilogTokens text ts → Faults (λ n. Grammar.file) ts e rest

@@ -71,8 +71,7 @@ pub record IsIdentifier (w : List ℕ) : Type 0 where
   pub short : length w ≤ net_name_max
   pub free : (k : Keyword) → w ≢ keyword_text k
 
--- The text is a token of the kind, and no token begins with it and takes more of the rest. A sized number is a decimal numeral,
--- `'`, the letter of a base and a numeral of that base.
+-- The text is a token of the kind, and no longer one begins there. A sized number: a numeral, `'`, the letter of a base, its digits.
 abbrev pub IsVerilogToken : TokenKind → List ℕ → List ℕ → Type 0
 IsVerilogToken kinds.Identifier w rest = IsIdentifier w × (stops is_part rest ≡ true)
 IsVerilogToken kinds.Number w rest = IsNumeral 10 w × (stops (is_digit 10) rest ≡ true) × (next_base rest ≡ None)
@@ -119,8 +118,7 @@ terminal_at p _ = None
 abbrev pub HasVerilogTokens : List ℕ → List VerilogTerminal → Type 0
 HasVerilogTokens text ts = Cutting.IsCutInto piece_text StandsInVerilog terminal_at text ts
 
--- Pieces come before the place, and none begins there, as at a foreign byte, at an identifier that is too long, or at a `/*`
--- without its end.
+-- Pieces come before the place, and none begins there: a foreign byte, an identifier that is too long, or a `/*` without its end.
 abbrev pub HasVerilogLexicalFault : List ℕ → ℕ → Type 0
 HasVerilogLexicalFault text place = Cutting.StopsAt piece_text StandsInVerilog terminal_at text place
 

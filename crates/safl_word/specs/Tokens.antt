@@ -75,8 +75,7 @@ IsNameLike (c ∷ w) = (begins_name c ≡ true) × (list_all in_name w ≡ true)
 abbrev pub base_of : ℕ → Option ℕ
 base_of c = if c == 100 then Some 10 else if c == 104 then Some 16 else if c == 98 then Some 2 else None
 
--- the parts of a sized number: a decimal numeral, `'`, the letter of a base, and a numeral of that base, without blanks between
--- them
+-- a sized number: a decimal numeral, `'`, the letter of a base, and a numeral of that base, without blanks between them
 pub record SizedParts : Type 0 where
   pub width : List ℕ
   pub letter : ℕ

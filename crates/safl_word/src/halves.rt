@@ -14,8 +14,10 @@ const RADIX: Raw = 0x1_0000_0000_0000_0000;
 /// number that is known to be below 2^64 is read and written without its high half.
 #[derive(Drop)]
 pub struct Numbers {
-    low: Vec<u64>,
-    high: Vec<u64>,
+    /// The number modulo 2^64 at each place.
+    pub low: Vec<u64>,
+    /// The number divided by 2^64 at each place.
+    pub high: Vec<u64>,
 }
 
 impl Model for Numbers {

@@ -22,4 +22,4 @@ pub use crate::numbers::{argument, decimal, numeral, push_binary, push_decimal};
 pub use crate::operators::{apply, result_width};
 pub use crate::primitive::Primitive;
 pub use crate::token::{Key, Sym, Token, TokenKind};
-pub use crate::word::{Raw, Word};
+pub use crate::word::{Raw, Word, greatest};
