@@ -1,7 +1,7 @@
 -- Cells on signals whose literals are ready.
+use Rattle.safl_aig.proofs.Common.{All, CellFits, Gates, IsNetlist, Lit, Netlist, Pins, Sig}
 use Rattle.std.proofs.Common.{◌≡◌, ℕ, zero, suc, ◌+◌, ◌-◌, ◌<◌, ◌≤◌, List, [], ◌∷◌, map, length, Option, Some, None, Bool, true, false, cond, ◌&&◌}
 use Rattle.std.proofs.Common.{nat_le, nat_lt, slice_get, slice_index_or, refl, sym, ap, ◌∙◌, subst, arith}
-use Rattle.std.specs.List.{All}
 use Rattle.std.proofs.lemmas.List.Elements.{All-head, All-tail}
 use Rattle.std.proofs.lemmas.Bool.{and_parts, leb-true, ltb-true}
 use Rattle.safl_word.specs.Words.{Word}
@@ -10,19 +10,13 @@ use Rattle.safl_word.specs.declared.primitive.Primitive.{Primitive}
 use Rattle.safl_word.specs.declared.primitive.Primitive.TheVariants.{Add, Sub, Mul, And, Or, Xor, Not, Eq, Ne, Lt, Le, Gt, Ge, Shl, Shr, Cat, Bits, Ext}
 use Rattle.safl_word.specs.Primitives.{is_width, where_true, result_width}
 use Rattle.safl_word.proofs.Widths.{only_where}
-use Rattle.safl_net.specs.declared.cell.Sig.{Sig}
 use Rattle.safl_net.specs.declared.cell.Op.{Op}
 use Rattle.safl_net.specs.declared.cell.Op.TheVariants.{Apply}
-use Rattle.safl_net.specs.Netlist.{Netlist}
 use Rattle.safl_net.specs.Valuations.{cell_word}
 use Rattle.safl_net.specs.Widths.{op_width, prim_width}
 use Rattle.safl_net.specs.Making.{cell_on, numbers, signal_widths}
-use Rattle.safl_net.specs.Rules.{IsNetlist, CellFits}
-use Rattle.safl_aiger.specs.declared.literal.Lit.{Lit}
 use Rattle.safl_aiger.specs.Literals.{Assignment}
-use Rattle.safl_bits.specs.Gates.{Gates}
 use Rattle.safl_bits.specs.Results.{word, MakesOne, MayTake}
-use Rattle.safl_aig.specs.declared.table.Pins.{Pins}
 use Rattle.safl_aig.specs.Tables.{lits_at, Ready, AreReady, Agrees, word_of, CellMade, RoomFor, GrowsFor, OpMade, MayDo, GrowsBy}
 use Rattle.safl_aig.proofs.Nets.{width_le}
 

@@ -1,28 +1,22 @@
 -- Signals that are connected in the order of their wires.
+use Rattle.safl_aig.proofs.Common.{IsNetlist, Lit, Pins, Sig, lower_or_last, summed, summed_more}
 use Rattle.std.proofs.Common.{◌≡◌, ◌≢◌, ◌⊎◌, inl, inr, ℕ, zero, suc, ◌+◌, ◌*◌, ◌<◌, ◌≤◌, List, [], ◌∷◌, map, length, cond, Option, Some, None}
 use Rattle.std.proofs.Common.{slice_get, slice_index, slice_set, refl, sym, ap, ◌∙◌, subst, arith}
 use Rattle.std.proofs.lemmas.List.{length-set}
 use Rattle.std.proofs.lemmas.List.Elements.{All-nil, All-cons}
 use Rattle.std.proofs.lemmas.Option.{slice_get_within}
-use Rattle.safl_word.specs.Lists.{summed}
-use Rattle.safl_word.proofs.Naturals.{lower_or_last}
-use Rattle.safl_word.proofs.Lists.{summed_more}
 use Rattle.safl_net.specs.declared.cell.SigKind.{SigKind}
-use Rattle.safl_net.specs.declared.cell.Sig.{Sig}
 use Rattle.safl_net.specs.Netlist.{Netlist, Signal, Kind, Input, Reg, Wire, Cell, width_of, is_input, is_register}
 use Rattle.safl_net.specs.Valuations.{Valuation, Fits, Holds, cell_word, signal_word}
 use Rattle.safl_net.specs.Making.{kind_at, kind_in, cell_in, sort_of, signal_widths, numbers}
-use Rattle.safl_net.specs.Rules.{IsNetlist}
 use Rattle.safl_net.proofs.SignalKinds.{sort_wire_or_not}
 use Rattle.safl_order.specs.Order.{operands_of, operands_in, IsWire, IsOrder}
 use Rattle.safl_order.proofs.Moves.{operand_in, wire_in_net}
-use Rattle.safl_aiger.specs.declared.literal.Lit.{Lit}
 use Rattle.safl_aiger.specs.Literals.{Assignment, shown}
 use Rattle.safl_bits.specs.Gates.{Gates, IsLiteral, AreLiterals, HasRoom, Grows, count}
 use Rattle.safl_bits.specs.Gates.{Holds as Shows}
 use Rattle.safl_bits.proofs.Growing.{holds_before}
 use Rattle.safl_bits.proofs.Places.{literals_kept}
-use Rattle.safl_aig.specs.declared.table.Pins.{Pins}
 use Rattle.safl_aig.specs.Weights.{op_weight, signal_weight, kind_weight, weight}
 use Rattle.safl_aig.specs.Tables.{lits_at, Ready, Agrees, variable_lits, width_if, bits_before, input_count, first_and, kind_lits, source_lits, CellMade, RoomFor, GrowsFor}
 use Rattle.safl_aig.specs.Wiring.{OperandsReady, SourcesAgree, WireMade, Connected}

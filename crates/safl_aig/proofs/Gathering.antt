@@ -1,9 +1,8 @@
 -- Lists that are gathered by number.
+use Rattle.safl_aig.proofs.Common.{gathered, summed}
 use Rattle.std.proofs.Common.{◌≡◌, ◌⊎◌, inl, inr, ℕ, zero, suc, ◌+◌, ◌<◌, List, ◌++◌, map, length, refl, sym, ap, ◌∙◌, arith, length-append}
 use Rattle.std.proofs.lemmas.List.{map-append}
-use Rattle.safl_word.specs.Lists.{summed}
 use Rattle.safl_word.proofs.Lists.{append_parts}
-use Rattle.safl_aig.specs.Bits.{gathered}
 
 pub gathered_same : {A : Type 0} (f g : ℕ → List A) (k : ℕ) → ((s : ℕ) → s < k → f s ≡ g s) → gathered f k ≡ gathered g k
 gathered_same f g zero h = refl

@@ -1,26 +1,20 @@
 -- A connected net is mirrored.
+use Rattle.safl_aig.proofs.Common.{AllZero, Connected, Gates, Lit, Pins, length-map, next_lits, next_sig, output_lits}
 use Rattle.std.proofs.Common.{◌≡◌, ℕ, zero, suc, ◌+◌, ◌<◌, ◌^◌, List, [], ◌∷◌, ◌++◌, length, Bool, true, false, cond, Option, Some, None, slice_get}
 use Rattle.std.proofs.Common.{slice_index, unwrap_or, refl, sym, ap, ◌∙◌, subst, arith}
-use Rattle.std.proofs.lemmas.List.{length-map}
 use Rattle.safl_net.specs.Netlist.{Netlist, Signal, Kind, Input, Reg, Wire, IsSet, AllSet, width_in, width_of, is_input, is_register}
 use Rattle.safl_net.specs.Valuations.{Valuation, Fits, reset_state, next_state, next_number, kind_next}
 use Rattle.safl_net.specs.Making.{kind_at, kind_in, sort_of, next_in}
 use Rattle.safl_net.specs.Rules.{IsNetlist, KindFits}
 use Rattle.safl_order.specs.Order.{IsWire}
-use Rattle.safl_aiger.specs.declared.literal.Lit.{Lit}
 use Rattle.safl_aiger.specs.Literals.{Assignment, on, values, number, shown, bits_of}
 use Rattle.safl_aiger.specs.Circuits.{Circuit, latches, base}
 use Rattle.safl_aiger.specs.Runs.{Wired, variable_bits, input_bits, latch_bits}
-use Rattle.safl_bits.specs.Gates.{Gates}
 use Rattle.safl_bits.specs.Gates.{Holds as Shows}
 use Rattle.safl_bits.proofs.Numbers.{tell, bits_long, number_bits}
-use Rattle.safl_aig.specs.declared.table.Pins.{Pins}
 use Rattle.safl_aig.specs.Bits.{gathered, of_kind, for_registers, output_at, signal_bits}
 use Rattle.safl_aig.specs.Mirrors.{Mirrors, given_bits}
-use Rattle.safl_aig.specs.Weights.{AllZero}
 use Rattle.safl_aig.specs.Tables.{lits_at, Agrees, variable_lits, width_if, bits_before, input_count, latch_count, kind_lits}
-use Rattle.safl_aig.specs.Wiring.{Connected}
-use Rattle.safl_aig.specs.Places.{next_sig, next_lits, output_lits}
 use Rattle.safl_aig.proofs.Gathering.{gathered_same, gathered_map, gathered_long, gathered_split, summed_same}
 use Rattle.safl_aig.proofs.Nets.{output_known}
 use Rattle.safl_aig.proofs.Sources.{variable_values}

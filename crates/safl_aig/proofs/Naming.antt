@@ -1,26 +1,19 @@
 -- The parts of a net's circuit make one.
+use Rattle.safl_aig.proofs.Common.{All, Connected, IsNetlist, Lit, Pins, length-map, length_push, output_weight, summed, weight}
 use Rattle.std.proofs.Common.{◌≡◌, ◌≢◌, ℕ, zero, suc, ◌+◌, ◌*◌, ◌%◌, ◌<◌, ◌≤◌, ◌^◌, List, [], ◌∷◌, ◌++◌, length, Bool, true, false, cond, not, ◌&&◌}
 use Rattle.std.proofs.Common.{nat_le, Option, Some, None, slice_get, decimal, refl, sym, ap, ◌∙◌, subst, arith}
-use Rattle.std.specs.List.{All}
-use Rattle.std.proofs.lemmas.List.{length-map, length_push}
 use Rattle.std.proofs.lemmas.List.Elements.{All-nil, All-cons, All-append, All-push, All-same, All-weaker}
 use Rattle.std.proofs.lemmas.Fmt.{decimal_by_steps}
 use Rattle.std.proofs.lemmas.Bool.{and_parts}
-use Rattle.safl_word.specs.Lists.{summed}
 use Rattle.safl_net.specs.Netlist.{Netlist, Signal, AllSet, Kind, width_of, is_input, is_register}
 use Rattle.safl_net.specs.Making.{kind_at, name_at, name_in}
 use Rattle.safl_net.specs.Names.{is_start, is_part, are_parts, is_identifier, is_good, is_reserved}
-use Rattle.safl_net.specs.Rules.{IsNetlist}
 use Rattle.safl_net.proofs.SignalKinds.{start_part}
-use Rattle.safl_aiger.specs.declared.literal.Lit.{Lit}
 use Rattle.safl_aiger.specs.declared.circuit.Names.{Names}
 use Rattle.safl_aiger.specs.Circuits.{Circuit, circuit_of, names_of, variables, base, IsLine, AreBelow, IsCircuit}
 use Rattle.safl_bits.specs.Gates.{Gates, IsGates, IsLiteral, count}
-use Rattle.safl_aig.specs.declared.table.Pins.{Pins}
 use Rattle.safl_aig.specs.Bits.{gathered, of_kind, for_inputs, for_registers, output_at}
-use Rattle.safl_aig.specs.Weights.{weight, output_weight}
 use Rattle.safl_aig.specs.Tables.{lits_at, width_if, bits_before, input_count, latch_count}
-use Rattle.safl_aig.specs.Wiring.{Connected}
 use Rattle.safl_aig.specs.Places.{next_sig, next_lits, output_lits, bit_name, bit_names, signal_names, output_names, name_of_output}
 use Rattle.safl_aig.proofs.Gathering.{gathered_long, summed_same}
 use Rattle.safl_aig.proofs.Nets.{output_known, width_le}

@@ -1,10 +1,7 @@
 -- Sums over the wires in their order.
+use Rattle.safl_aig.proofs.Common.{Netlist, lower_or_last, signal_weight, summed, weight}
 use Rattle.std.proofs.Common.{◌≡◌, ◌≢◌, inl, inr, ℕ, zero, suc, ◌+◌, ◌<◌, ◌≤◌, ◌==◌, List, [], ◌∷◌, length, true, false, cond, Some, slice_get, slice_index, refl, sym, ap, ◌∙◌, arith}
 use Rattle.std.proofs.lemmas.Bool.Decides.{nat_tests}
-use Rattle.safl_word.specs.Lists.{summed}
-use Rattle.safl_word.proofs.Naturals.{lower_or_last}
-use Rattle.safl_net.specs.Netlist.{Netlist}
-use Rattle.safl_aig.specs.Weights.{signal_weight, weight}
 use Rattle.safl_aig.proofs.Gathering.{summed_same}
 
 -- the weight of the first wires of an order

@@ -1,13 +1,10 @@
 -- The variables of inputs and registers.
+use Rattle.safl_aig.proofs.Common.{Pins, lower_or_last, summed, summed_more}
 use Rattle.std.proofs.Common.{◌≡◌, ◌⊎◌, inl, inr, ℕ, zero, suc, ◌+◌, ◌*◌, ◌<◌, ◌≤◌, List, [], ◌∷◌, ◌++◌, length, Bool, refl, sym, ap, ◌∙◌, subst, arith}
-use Rattle.safl_word.specs.Lists.{summed}
-use Rattle.safl_word.proofs.Naturals.{lower_or_last}
-use Rattle.safl_word.proofs.Lists.{summed_more}
 use Rattle.safl_net.specs.Netlist.{Netlist, Kind}
 use Rattle.safl_aiger.specs.Literals.{Assignment, values}
 use Rattle.safl_aiger.specs.Runs.{variable_bits}
 use Rattle.safl_bits.proofs.Growing.{even_on}
-use Rattle.safl_aig.specs.declared.table.Pins.{Pins}
 use Rattle.safl_aig.specs.Tables.{lits_at, variable_lits, width_if, bits_before, source_lits}
 
 pub variable_push : (first k : ℕ) → variable_lits first (k + 1) ≡ variable_lits first k ++ record { 0 = 2 * (first + k) } ∷ []

@@ -1,12 +1,9 @@
 -- What the lines that were read say of the whole text.
+use Rattle.safl_aiger.proofs.Common.{AigRule, LineKind, Lit, Name}
 use Rattle.std.proofs.Common.{◌≡◌, ℕ, suc, ◌+◌, ◌^◌, ◌<◌, ◌≤◌, ◌==◌, List, [], ◌∷◌, ◌++◌, length, drop, Bool, true, false, cond, refl, sym, ap, ◌∙◌, subst, arith, length-append}
 use Rattle.std.proofs.lemmas.List.{length-map}
-use Rattle.safl_aiger.specs.declared.literal.Lit.{Lit}
-use Rattle.safl_aiger.specs.declared.circuit.Name.{Name}
 use Rattle.safl_aiger.specs.declared.circuit.Names.{Names}
-use Rattle.safl_aiger.specs.declared.reading.AigRule.{AigRule}
 use Rattle.safl_aiger.specs.declared.reading.AigRule.TheVariants.{B01, B04}
-use Rattle.safl_aiger.specs.declared.reading.LineKind.{LineKind}
 use Rattle.safl_aiger.specs.declared.sections.Body.{Body}
 use Rattle.safl_aiger.specs.Circuits.{Circuit, IsCircuit, circuit_of}
 use Rattle.safl_aiger.specs.Lines.{grown, text_lines}

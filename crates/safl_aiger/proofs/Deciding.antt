@@ -1,18 +1,13 @@
 -- A text is a circuit or has a fault.
+use Rattle.safl_aiger.proofs.Common.{AigRule, Circuit, LineKind, Lit, Sort, list_all}
 use Rattle.std.proofs.Common.{◌≡◌, ◌≢◌, ◌⊎◌, ℕ, zero, suc, ◌+◌, ◌*◌, ◌^◌, ◌<◌, ◌≤◌, List, [], ◌∷◌, ◌++◌, length, replicate, slice_get, Some, decimal}
 use Rattle.std.proofs.Common.{codes, Bool, true, false, inl, inr, refl, sym, ap, ◌∙◌, subst, arith}
-use Rattle.std.specs.List.{list_all}
 use Rattle.std.proofs.lemmas.List.{append_cancel_left}
 use Rattle.safl_word.specs.Numerals.{is_digit, value, IsBounded}
 use Rattle.safl_word.proofs.Naturals.{le_or_more}
-use Rattle.safl_aiger.specs.declared.literal.Lit.{Lit}
-use Rattle.safl_aiger.specs.declared.reading.AigRule.{AigRule}
 use Rattle.safl_aiger.specs.declared.reading.AigRule.TheVariants.{B01, B02, B03, B04}
-use Rattle.safl_aiger.specs.declared.reading.LineKind.{LineKind}
 use Rattle.safl_aiger.specs.declared.reading.LineKind.TheVariants.{Input, Latch, Output, And}
-use Rattle.safl_aiger.specs.declared.symbols.Sort.{Sort}
 use Rattle.safl_aiger.specs.declared.symbols.Sort.TheVariants as sorts
-use Rattle.safl_aiger.specs.Circuits.{Circuit}
 use Rattle.safl_aiger.specs.Lines.{text_lines, fields, IsDecimal, AreDecimals, HasNumbers}
 use Rattle.safl_aiger.specs.Reads.{Counts, IsHeader, total, size, IsGood, kinds_from, line_kinds, AreGood, own_numbers, latch_numbers, output_numbers}
 use Rattle.safl_aiger.specs.Reads.{and_numbers, counts_of, Named, NamesPlace, names_for, with_name, letter, symbol_line, unnamed, RefusesLine, HasHeader, AigReads}

@@ -1,7 +1,6 @@
 -- Lines that are written one after another.
+use Rattle.safl_aiger.proofs.Common.{Name, names_of}
 use Rattle.std.proofs.Common.{◌≡◌, ℕ, zero, suc, ◌+◌, ◌-◌, ◌*◌, ◌<◌, List, [], ◌∷◌, ◌++◌, length, drop, get_or, Some, slice_get, refl, sym, ap, ◌∙◌, arith, append_assoc}
-use Rattle.safl_aiger.specs.declared.circuit.Name.{Name}
-use Rattle.safl_aiger.specs.Circuits.{names_of}
 use Rattle.safl_aiger.specs.Texts.{joined_lines, numbers_line, input_text, symbol_row, symbols_text}
 
 pub joined-append : (xs ys : List (List ℕ)) → joined_lines (xs ++ ys) ≡ joined_lines xs ++ joined_lines ys

@@ -1,3 +1,4 @@
+mod Common
 pub mod Joining
 pub mod Rows
 pub mod Cutting

@@ -1,20 +1,16 @@
 -- Symbol lines, and the names that they set.
+use Rattle.safl_aiger.proofs.Common.{Name, Sort, list_all, names_of, nat_tests}
 use Rattle.std.proofs.Common.{◌≡◌, ◌≢◌, ℕ, zero, suc, ◌+◌, ◌-◌, ◌*◌, ◌^◌, ◌<◌, ◌≤◌, List, [], ◌∷◌, ◌++◌, length, get_or, set, slice_get}
 use Rattle.std.proofs.Common.{Some, decimal, codes, true, ◌&&◌, refl, sym, ap, ◌∙◌, subst, arith, append_assoc, length-append}
 use Rattle.std.specs.Int.{IsInRange}
-use Rattle.std.specs.List.{list_all}
 use Rattle.std.proofs.lemmas.Bool.{and_parts}
-use Rattle.std.proofs.lemmas.Bool.Decides.{nat_tests}
 use Rattle.std.proofs.lemmas.Fmt.{decimal_injective, decimal_digit, first_decimal, decimal-digits_value}
 use Rattle.std.proofs.lemmas.List.{map-set, length-set}
 use Rattle.std.proofs.lemmas.Str.Parse.{IsNumeralModel, IsDigitsTest, WeighsDigits, numerals_by_weight}
 use Rattle.safl_word.specs.Numerals.{digit, is_digit, value, IsBounded}
 use Rattle.safl_word.proofs.Digits.{digit_passes}
-use Rattle.safl_aiger.specs.declared.circuit.Name.{Name}
-use Rattle.safl_aiger.specs.declared.symbols.Sort.{Sort}
 use Rattle.safl_aiger.specs.declared.symbols.Sort.TheVariants.{Input, Latch, Output}
 use Rattle.safl_aiger.specs.declared.symbols.SymbolsErr.TheVariants.{Stopped}
-use Rattle.safl_aiger.specs.Circuits.{names_of}
 use Rattle.safl_aiger.specs.Reads.{Named, NamesPlace, NamePlaces, names_for, with_name, letter, symbol_line, RefusesLine, SymbolFault}
 use Rattle.safl_aiger.specs.Symbols.{IsSmall, Sets, NamesUpTo, SymbolsFail}
 use Rattle.safl_aiger.proofs.Cutting.{Free}

@@ -1,13 +1,12 @@
 -- A line that is cut at its first space, and the symbol that it is.
+use Rattle.safl_aiger.proofs.Common.{Sort, nat_tests}
 use Rattle.std.proofs.Common.{◌≡◌, ◌≢◌, ℕ, suc, ◌+◌, ◌^◌, ◌<◌, ◌≤◌, ◌==◌, List, [], ◌∷◌, ◌++◌, length, take, drop, get_or, decimal, Bool, true, false}
 use Rattle.std.proofs.Common.{cond, ◌↔◌, Option, Some, None, IsSome, IsNone, IfSome, Result, Ok, Err, IfErr, refl, sym, ap, ◌∙◌, arith}
 use Rattle.std.proofs.Common.{length-append}
 use Rattle.std.proofs.lemmas.List.{drop_all, length-drop, length-take-le}
-use Rattle.std.proofs.lemmas.Bool.Decides.{nat_tests}
 use Rattle.std.proofs.lemmas.Bool.{eq-eqb}
 use Rattle.safl_word.specs.Numerals.{value, IsBounded}
 use Rattle.safl_word.proofs.Lists.{first_and_rest, not_empty}
-use Rattle.safl_aiger.specs.declared.symbols.Sort.{Sort}
 use Rattle.safl_aiger.specs.Lines.{grown, fields}
 use Rattle.safl_aiger.specs.declared.symbols.SymbolErr.{SymbolErr}
 use Rattle.safl_aiger.specs.declared.symbols.SymbolErr.TheVariants.{Refused, NoMemory}

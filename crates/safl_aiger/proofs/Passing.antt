@@ -1,11 +1,8 @@
 -- Sections one after another.
+use Rattle.safl_aiger.proofs.Common.{AigRule, LineKind, Lit, text_lines}
 use Rattle.std.proofs.Common.{subst, ◌≡◌, ℕ, zero, suc, ◌+◌, ◌-◌, ◌*◌, ◌<◌, List, [], ◌∷◌, ◌++◌, length, drop, replicate, refl, sym, ap, ◌∙◌, arith, append_assoc, length-append}
 use Rattle.std.proofs.lemmas.List.{map_push, replicate-append-replicate}
-use Rattle.safl_aiger.specs.declared.literal.Lit.{Lit}
-use Rattle.safl_aiger.specs.declared.reading.AigRule.{AigRule}
-use Rattle.safl_aiger.specs.declared.reading.LineKind.{LineKind}
 use Rattle.safl_aiger.specs.declared.reading.LineKind.TheVariants.{Output}
-use Rattle.safl_aiger.specs.Lines.{text_lines}
 use Rattle.safl_aiger.specs.Reads.{AreGood, BreaksLine, kinds_from, own_numbers, latch_numbers, output_numbers, and_numbers}
 use Rattle.safl_aiger.specs.declared.sections.SectionErr.{SectionErr}
 use Rattle.safl_aiger.specs.declared.sections.SectionErr.TheVariants.{Stopped, NoMemory}

@@ -1,10 +1,7 @@
 -- A text is at most one circuit, or has at most one first fault, and not both.
+use Rattle.safl_aiger.proofs.Common.{AigRule, LineKind, Lit, length-replicate}
 use Rattle.std.proofs.Common.{◌≡◌, ℕ, zero, suc, ◌+◌, ◌^◌, ◌<◌, List, [], ◌∷◌, ◌++◌, length, drop, codes, inl, inr, refl, sym, ap, ◌∙◌, subst, arith}
-use Rattle.std.proofs.lemmas.List.{length-replicate}
 use Rattle.safl_word.proofs.Lists.{append_parts}
-use Rattle.safl_aiger.specs.declared.literal.Lit.{Lit}
-use Rattle.safl_aiger.specs.declared.reading.AigRule.{AigRule}
-use Rattle.safl_aiger.specs.declared.reading.LineKind.{LineKind}
 use Rattle.safl_aiger.specs.declared.reading.LineKind.TheVariants.{Input, Latch, Output, And}
 use Rattle.safl_aiger.specs.Circuits.{Circuit, latches, variables, base}
 use Rattle.safl_aiger.specs.Lines.{fields, AreDecimals, HasNumbers}

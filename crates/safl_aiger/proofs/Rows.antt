@@ -1,8 +1,7 @@
 -- The lines of a circuit's numbers are those of its sections, one after another.
+use Rattle.safl_aiger.proofs.Common.{Circuit, Lit, base}
 use Rattle.std.proofs.Common.{◌≡◌, ℕ, zero, suc, ◌+◌, ◌*◌, List, [], ◌∷◌, ◌++◌, map, refl, sym, ap, ◌∙◌, append_assoc}
 use Rattle.std.proofs.lemmas.List.{map-append}
-use Rattle.safl_aiger.specs.declared.literal.Lit.{Lit}
-use Rattle.safl_aiger.specs.Circuits.{Circuit, base}
 use Rattle.safl_aiger.specs.Reads.{own_numbers, latch_numbers, output_numbers, and_numbers, body_numbers}
 use Rattle.safl_aiger.specs.Texts.{numbers_line, row_line, input_text, latch_text, output_text, and_text, body_text, symbol_lines}
 

@@ -1,16 +1,13 @@
 -- Results that take no gates.
+use Rattle.safl_bits.proofs.Common.{AreLiterals, Assignment, Gates, IsLiteral, Lit, nat_tests, shown}
 use Rattle.std.proofs.Common.{◌≡◌, ℕ, ◌+◌, ◌-◌, ◌*◌, ◌%◌, ◌^◌, ◌<◌, ◌≤◌, List, [], ◌∷◌, ◌++◌, length, take, drop, Bool, true, false, ◌&&◌, nat_lt}
 use Rattle.std.proofs.Common.{nat_le, cond, Some, None, refl, sym, ap, ◌∙◌, arith, length-append}
-use Rattle.std.proofs.lemmas.Bool.Decides.{nat_tests}
 use Rattle.std.proofs.lemmas.List.{length-drop, length-take-le}
 use Rattle.std.proofs.lemmas.List.Elements.{All-same, All-append, All-take, All-drop}
 use Rattle.safl_word.specs.Limits.{width_max}
 use Rattle.safl_word.specs.declared.primitive.Primitive.TheVariants.{Not, Cat, Bits}
 use Rattle.safl_word.specs.Primitives.{is_width, result_width, where_true}
 use Rattle.safl_word.proofs.Widths.{within}
-use Rattle.safl_aiger.specs.declared.literal.Lit.{Lit}
-use Rattle.safl_aiger.specs.Literals.{Assignment, shown}
-use Rattle.safl_bits.specs.Gates.{Gates, IsLiteral, AreLiterals}
 use Rattle.safl_bits.specs.Results.{Makes, MakesOne}
 use Rattle.safl_bits.proofs.Moving.{shown-append, shown_take, shown_drop}
 

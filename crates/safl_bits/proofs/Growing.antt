@@ -1,11 +1,7 @@
 -- What stays as a graph grows.
+use Rattle.safl_bits.proofs.Common.{Assignment, Gates, Grows, Holds, IsLiteral, Lit, append-nil, differ, nat_tests, on, on_number}
 use Rattle.std.proofs.Common.{◌≡◌, ℕ, zero, suc, ◌+◌, ◌*◌, ◌/◌, ◌%◌, ◌≤◌, List, [], ◌∷◌, ◌++◌, length, Bool, true, false, not, cond, ◌&&◌, ◌||◌, ◌==◌}
 use Rattle.std.proofs.Common.{Some, slice_get, refl, sym, ap, ◌∙◌, subst, arith, append_assoc}
-use Rattle.std.proofs.lemmas.List.{append-nil}
-use Rattle.std.proofs.lemmas.Bool.Decides.{nat_tests}
-use Rattle.safl_aiger.specs.declared.literal.Lit.{Lit}
-use Rattle.safl_aiger.specs.Literals.{Assignment, on, on_number}
-use Rattle.safl_bits.specs.Gates.{Gates, IsLiteral, Grows, Holds, differ}
 
 pub grows_same : (g : Gates) → Grows g g 0
 grows_same g = record { first = refl; more = []; is = sym (append-nil g.ands); some = omega arith; few = omega arith }

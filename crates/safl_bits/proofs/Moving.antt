@@ -1,18 +1,14 @@
 -- Words that are moved, and the ends of sums, products and shifts.
+use Rattle.safl_bits.proofs.Common.{Assignment, Lit, bit_of, moved, nat_tests, number, on, shown, values}
 use Rattle.std.proofs.Common.{◌≡◌, ◌⊎◌, inl, inr, ℕ, zero, suc, min, ◌+◌, ◌-◌, ◌*◌, ◌/◌, ◌%◌, ◌^◌, ◌<◌, ◌≤◌, List, ◌∷◌, ◌++◌, length, take, drop}
 use Rattle.std.proofs.Common.{replicate, Bool, true, false, not, cond, nat_lt, ◌==◌, Result, Ok, Err, IfOk, refl, sym, ap, ◌∙◌, subst, arith}
 use Rattle.std.proofs.Math.Nat.{div-eq_of_lt, pow-le-pow_right, mul-mod_left, mod-eq_of_lt}
 use Rattle.std.proofs.lemmas.List.{length-map, length-replicate, map-append, take-map, drop-map, drop_all}
 use Rattle.std.proofs.lemmas.Nat.{pow-add, shl-shr, mod-pow-add}
-use Rattle.std.proofs.lemmas.Bool.Decides.{nat_tests}
 use Rattle.std.proofs.lemmas.Bool.{le-ltb}
-use Rattle.safl_word.specs.Primitives.{bit_of}
 use Rattle.safl_word.proofs.Naturals.{le_or_more}
-use Rattle.safl_aiger.specs.declared.literal.Lit.{Lit}
-use Rattle.safl_aiger.specs.Literals.{Assignment, on, values, number, shown}
 use Rattle.safl_bits.specs.declared.words.Side.{Side}
 use Rattle.safl_bits.specs.declared.words.Side.TheVariants.{Left, Right}
-use Rattle.safl_bits.specs.Operators.{moved}
 use Rattle.safl_bits.proofs.Numbers.{number-append, number_take, number_drop, number_zeros}
 use Rattle.safl_bits.proofs.Places.{shown_lt}
 use Rattle.safl_bits.proofs.Steps.{left_step, right_step}

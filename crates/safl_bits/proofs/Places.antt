@@ -1,14 +1,10 @@
 -- Words of literals, place by place.
+use Rattle.safl_bits.proofs.Common.{Assignment, Lit, bit_of, nat_tests, number, on, pow-suc, shown, values}
 use Rattle.std.proofs.Common.{◌≡◌, ℕ, suc, ◌+◌, ◌*◌, ◌^◌, ◌<◌, ◌≤◌, List, [], ◌∷◌, ◌++◌, length, take, Bool, true, false, not, cond, ◌&&◌, ◌||◌, ◌==◌}
 use Rattle.std.proofs.Common.{bit_and, bit_or, bit_xor, slice_index_or, refl, sym, ap, ◌∙◌, subst, arith}
-use Rattle.std.proofs.Math.Nat.{pow-suc}
-use Rattle.std.proofs.lemmas.Bool.Decides.{nat_tests}
 use Rattle.std.proofs.lemmas.List.{map_push, take_more, length-take-le, length-map}
 use Rattle.std.proofs.lemmas.List.Elements.{All-weaker, All-push, All-same}
 use Rattle.std.proofs.lemmas.Nat.{and_block, or_block, xor_block}
-use Rattle.safl_word.specs.Primitives.{bit_of}
-use Rattle.safl_aiger.specs.declared.literal.Lit.{Lit}
-use Rattle.safl_aiger.specs.Literals.{Assignment, on, values, number, shown}
 use Rattle.safl_bits.specs.Gates.{Gates, IsLiteral, AreLiterals, Grows, differ}
 use Rattle.safl_bits.specs.declared.words.Gate.{Gate}
 use Rattle.safl_bits.specs.declared.words.Gate.TheVariants.{Both, Either, Differ}

@@ -1,14 +1,11 @@
 -- ANDs that are looked up by their operands.
+use Rattle.safl_bits.proofs.Common.{Assignment, Lit, append-nil, on, on_number, pairs}
 use Rattle.std.proofs.Common.{◌≡◌, ℕ, zero, suc, ◌+◌, ◌*◌, ◌<◌, List, [], ◌∷◌, ◌++◌, take, length, Some, Bool, true, false, ◌&&◌, slice_get, refl, sym, ap, subst, ◌∙◌, arith, rules}
 use Rattle.std.specs.Prelude.{if◌then◌else◌}
 use Rattle.std.specs.List.{list_any}
-use Rattle.std.proofs.lemmas.List.{append-nil}
-use Rattle.safl_aiger.specs.declared.literal.Lit.{Lit}
-use Rattle.safl_aiger.specs.Literals.{Assignment, on, on_number}
 use Rattle.safl_aiger.specs.Circuits.{AreBelow}
 use Rattle.safl_bits.specs.declared.graph.Operands.{Operands}
 use Rattle.safl_bits.specs.Gates.{Gates, IsGates, IsLiteral, HasRoom, Grows, Holds}
-use Rattle.safl_bits.specs.Sharing.{pairs}
 use Rattle.safl_bits.proofs.Growing.{even_on}
 
 abbrev pub eq : Operands → Operands → Bool

@@ -1,9 +1,8 @@
 -- Steps of sums, products and shifts, over plain numbers.
+use Rattle.safl_bits.proofs.Common.{bit_of, nat_tests}
 use Rattle.std.proofs.Common.{◌≡◌, ℕ, ◌+◌, ◌-◌, ◌*◌, ◌/◌, ◌%◌, ◌^◌, ◌<◌, Bool, true, false, not, ◌&&◌, ◌||◌, cond, nat_le, sym, ap, ◌∙◌, arith}
 use Rattle.std.proofs.Math.Nat.{add-mul-mod_self_left, mod-eq_of_lt, mod-mod, add-mod}
 use Rattle.std.proofs.lemmas.Nat.{pow-add, shr-shr, mul-mod_first}
-use Rattle.std.proofs.lemmas.Bool.Decides.{nat_tests}
-use Rattle.safl_word.specs.Primitives.{bit_of}
 
 -- what is left of a sum below 2^w when its carry goes
 pub low_of : (s m c t : ℕ) → s + m * c ≡ t → s < m → s ≡ t % m

@@ -1,10 +1,8 @@
 -- The machine with the stages of its sites kept in the activity that they belong to: a picture of the machine's states in which the laws are proved.
+use Rattle.safl_calls.proofs.Common.{Program, Word, back_of, no_word}
 use Rattle.std.specs.Prelude.{◌≡◌, ℕ, suc, List, [], ◌∷◌, ◌++◌, Some, Bool, true, false}
-use Rattle.safl_word.specs.Words.{Word, no_word}
-use Rattle.safl_term.specs.Program.{Program}
 use Rattle.safl_term.specs.Meaning.{at_function}
 use Rattle.safl_term.specs.Readiness.{Stage, Unsent, Sent, Returned, Ready, LoopTo, answer, wanted}
-use Rattle.safl_term.proofs.Bridge.{back_of}
 use Rattle.safl_calls.specs.Machine.{put, Event, Accept, Finish, Return, LoopInto}
 
 abbrev pub fresh : ℕ → Stage

@@ -1,4 +1,5 @@
 -- Lists of events, sweeps over numbers, and first places.
+use Rattle.safl_calls.proofs.Common.{Program, Word}
 use Rattle.std.proofs.Common.{◌≡◌, ℕ, zero, suc, ◌+◌, ◌<◌, ◌≤◌, List, [], ◌∷◌, ◌++◌, Option, Some, None, Bool, true, false, cond, ◌&&◌, nat_lt}
 use Rattle.std.proofs.Common.{is_some, refl, sym, ap, ◌∙◌, subst, ⊎_elim, arith, append-nil}
 use Rattle.std.proofs.lemmas.Bool.{cases_Bool, cases_eq, false≢true, lt-ltb, le-ltb, ltb-true, ltb-false, and_right, eq-eqb, ne_eqb}
@@ -6,8 +7,6 @@ use Rattle.safl_calls.specs.Machine.{Mode, Idle, Runs, Delivers, is_unsent, Stat
 use Rattle.safl_calls.specs.Picks.{first, picks}
 use Rattle.safl_calls.specs.Moves.{moves_count}
 use Rattle.safl_term.specs.Readiness.{or_else, Stage, Unsent, Sent, Returned}
-use Rattle.safl_term.specs.Program.{Program}
-use Rattle.safl_word.specs.Words.{Word}
 use Rattle.safl_term.proofs.OrElse.{or_else_none}
 
 -- the site that a unit serves

@@ -1,20 +1,13 @@
 -- Partial evaluation of a body, as more of its sites return.
+use Rattle.safl_calls.proofs.Common.{Primitive, Program, Word, apply_prim, arity, cases_eq, eq-eqb, false≢true, ne_eqb, not_loop, pick_one}
+use Rattle.safl_calls.proofs.Common.{pick_other, ready_not_yet, same_Some, some_at}
 use Rattle.std.proofs.Common.{◌≡◌, ℕ, suc, List, [], ◌∷◌, ◌++◌, length, Option, Some, None, Bool, true, false, cond, ◌==◌, is_some, refl, sym, ap, ◌∙◌, subst, inl, inr, ⊎_elim, ◌⊎◌, ◌≢◌}
-use Rattle.std.proofs.lemmas.Bool.{cases_eq, eq-eqb, ne_eqb, false≢true}
-use Rattle.std.proofs.lemmas.Option.{same_Some}
 use Rattle.safl_calls.proofs.Basics.{some_none}
 use Rattle.safl_term.proofs.Once.{Once, OnceIn, LoopsTo, count, Counted, CountedIn}
 use Rattle.safl_term.specs.Readiness.{Answer, Ready, LoopTo, NotYet, apply_to, loop_to, both, select, with_all, or_else, ready_from, answer, answers, wanted, wanted_in}
-use Rattle.safl_term.specs.Program.{Program, arity}
 use Rattle.safl_term.specs.Standing.{Stands, StandsIn}
 use Rattle.safl_term.specs.Terms.{Term, Terms, Const, Var, Op, If, Let, Call, Loop, Nil, Cons}
-use Rattle.safl_word.specs.Words.{Word}
 use Rattle.safl_term.proofs.Picking.{pick_two, pick_either, pick_cases}
-use Rattle.safl_word.specs.declared.primitive.Primitive.{Primitive}
-use Rattle.safl_word.specs.Primitives.{apply_prim}
-use Rattle.safl_word.proofs.Words.{pick_one, pick_other}
-use Rattle.safl_word.proofs.Options.{some_at}
-use Rattle.safl_term.proofs.Apart.{not_loop, ready_not_yet}
 use Rattle.safl_term.proofs.Widths.{ready_loop}
 use Rattle.safl_term.proofs.OrElse.{or_from}
 

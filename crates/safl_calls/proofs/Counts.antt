@@ -1,9 +1,7 @@
 -- The starts of all functions are the events that start one.
+use Rattle.safl_calls.proofs.Common.{Program, Word, cases_eq, eq-eqb, ne_eqb}
 use Rattle.std.proofs.Common.{◌≡◌, ℕ, zero, suc, ◌+◌, ◌<◌, ◌≤◌, ◌*◌, List, [], ◌∷◌, length, Bool, true, false, cond, ◌==◌, refl, sym, ap, ◌∙◌, arith, ⊎_elim}
-use Rattle.std.proofs.lemmas.Bool.{cases_eq, eq-eqb, ne_eqb}
 use Rattle.std.proofs.lemmas.List.{length-append}
-use Rattle.safl_word.specs.Words.{Word}
-use Rattle.safl_term.specs.Program.{Program}
 use Rattle.safl_term.specs.Readiness.{LoopTo, NotYet, answer}
 use Rattle.safl_calls.specs.Machine.{State, Mode, Idle, Runs, Delivers, Event, Accept, Finish, Return, LoopInto, back, says_as, says, Enabled, fire, Legal}
 use Rattle.safl_calls.specs.Starts.{event_start, starts_of, listed, goes_with}

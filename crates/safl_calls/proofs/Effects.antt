@@ -1,9 +1,8 @@
 -- A word whose use is past changes nothing.
+use Rattle.safl_calls.proofs.Common.{Program, Word, bool_at, fun_ext, ready_not_yet, same_Some, slot}
 use Rattle.std.proofs.Common.{◌≡◌, ◌≢◌, ℕ, zero, suc, ◌+◌, List, [], ◌∷◌, ◌++◌, length, length-append, Option, Some, None, Bool, true, false, cond}
 use Rattle.std.proofs.Common.{◌==◌, is_some, refl, sym, ap, ◌∙◌, subst, inl, inr, ⊎_elim, ◌⊎◌, arith}
-use Rattle.std.proofs.Math.Path.{fun_ext}
 use Rattle.std.proofs.lemmas.Bool.{cases_Bool, eq-eqb, ne_eqb, false≢true, true≢false, false_from_ne_true}
-use Rattle.std.proofs.lemmas.Option.{same_Some}
 use Rattle.safl_calls.proofs.Basics.{some_none}
 use Rattle.safl_calls.proofs.Bodies.{or_some, settled, settled_in, wanted_stands, wanted_stands_in}
 use Rattle.safl_calls.proofs.Locality.{answer_local, all_local, wanted_local, wanted_in_local}
@@ -13,14 +12,10 @@ use Rattle.safl_sites.specs.Conflicts.{Reaches, ReachesIn}
 use Rattle.safl_sites.specs.Kept.{feeds, feeds_each, Uses, Decides, DecidesIn, InBody, Held, HeldIn}
 use Rattle.safl_term.proofs.Once.{Once, OnceIn}
 use Rattle.safl_term.specs.Readiness.{Answer, Ready, LoopTo, NotYet, apply_to, loop_to, both, select, with_all, or_else, ready_from, answer, answers, wanted, wanted_in}
-use Rattle.safl_term.specs.Program.{Program}
 use Rattle.safl_term.specs.Standing.{Stands, StandsIn}
 use Rattle.safl_term.specs.Terms.{Term, Terms, Const, Var, Op, If, Let, Call, Loop, Nil, Cons}
-use Rattle.safl_word.specs.Words.{Word, slot}
-use Rattle.safl_word.specs.Lists.{bool_at}
 use Rattle.safl_word.proofs.Options.{none_of, some_at}
 use Rattle.safl_term.proofs.Picking.{pick_cases, Takes, Skips}
-use Rattle.safl_term.proofs.Apart.{ready_not_yet}
 
 unfoldable mutual
   unfolding Stands

@@ -1,12 +1,9 @@
 -- Spans that do not depend on arguments, and what bounds a span.
+use Rattle.safl_calls.proofs.Common.{Program, Term, Terms, Word, pick, span, spans}
 use Rattle.std.proofs.Common.{◌≡◌, ℕ, zero, suc, ◌+◌, ◌*◌, ◌≤◌, List, refl, arith}
 use Rattle.safl_calls.specs.Fixed.{Takes, takes_const, takes_var, takes_op, takes_if, takes_let, takes_call, TakeAll, take_nil, take_cons, IsFixed, IsShort}
-use Rattle.safl_calls.specs.Span.{span, spans}
 use Rattle.safl_term.specs.Meaning.{Gives, gives_const, gives_var, gives_op, gives_if, gives_let, gives_call, gives_loop, GivesAll, gives_nil, gives_cons}
 use Rattle.safl_term.specs.Meaning.{cost, costs, loops, loops_all}
-use Rattle.safl_term.specs.Program.{Program}
-use Rattle.safl_term.specs.Terms.{Term, Terms}
-use Rattle.safl_word.specs.Words.{pick, Word}
 
 takes_pick : (C : Program) (u n : ℕ) (a b : Term) → Takes C a n → Takes C b n → Takes C (pick u a b) n
 takes_pick C zero n a b x y = y

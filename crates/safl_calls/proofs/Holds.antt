@@ -1,20 +1,13 @@
 -- The invariant of the machine, and that a unit that finishes or loops keeps it.
+use Rattle.safl_calls.proofs.Common.{Gives, IsNumbered, Program, Term, Word, cases_eq, eq-eqb, ne_eqb, place, put}
 use Rattle.std.proofs.Common.{◌≡◌, ℕ, ◌≤◌, List, Bool, true, cond, refl, sym, ap, ◌∙◌, subst, arith, ⊎_elim}
 use Rattle.std.specs.Prelude.{◌≢◌}
-use Rattle.std.proofs.lemmas.Bool.{eq-eqb, ne_eqb, cases_eq}
 use Rattle.safl_calls.proofs.Activities.{fresh, Activity, Free, Active, Giving}
 use Rattle.safl_calls.proofs.Owed.{done_asks, tail_asks}
-use Rattle.safl_calls.specs.Machine.{put}
 use Rattle.safl_term.proofs.Bridge.{Sound, View, ready, loops, waits, bridge, Wants}
-use Rattle.safl_term.proofs.Places.{place}
 use Rattle.safl_term.proofs.Shows.{Done, Tail, Asks, done_gives, tail_gives}
 use Rattle.safl_term.specs.Readiness.{Stage, Unsent, Sent, Returned, Answer, Ready, LoopTo, answer, wanted}
 use Rattle.safl_term.proofs.Bridge.{back_of}
-use Rattle.safl_term.specs.Meaning.{Gives}
-use Rattle.safl_term.specs.Program.{Program}
-use Rattle.safl_term.specs.Terms.{Term}
-use Rattle.safl_term.specs.WellFormed.{IsNumbered}
-use Rattle.safl_word.specs.Words.{Word}
 
 pub put_same : {A : Type 0} (f : ℕ → A) (i j : ℕ) (x : A) → j ≡ i → put f i x j ≡ x
 put_same f i j x e = ap (λ b. cond b x (f j)) (eq-eqb i j (sym e))

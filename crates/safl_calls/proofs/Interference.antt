@@ -1,4 +1,5 @@
 -- Two sites of one unit that are both wanted or in flight conflict.
+use Rattle.safl_calls.proofs.Common.{Program, Word, pick_one, pick_other, sent_unsent, some_at, unit_for}
 use Rattle.std.proofs.Common.{◌≡◌, ◌≢◌, ℕ, zero, suc, ◌+◌, ◌*◌, ◌<◌, ◌≤◌, List, [], ◌++◌, Option, Some, None, Bool, true, false, cond, is_some, refl, sym, ap, ◌∙◌, subst, inl, inr, ⊎_elim, ◌⊎◌, arith}
 use Rattle.std.proofs.lemmas.Bool.{cases_eq, cases_order, eq-eqb, ne_eqb, false≢true, true≢false}
 use Rattle.safl_calls.proofs.Bodies.{or_some, settled, settled_in, wanted_stands, wanted_stands_in}
@@ -10,14 +11,9 @@ use Rattle.safl_sites.specs.Conflicts.{Reaches, Here, Through, ReachesIn, Apart,
 use Rattle.safl_calls.specs.Interference.{Busy, BusySitesConflict, OneInUse}
 use Rattle.safl_term.proofs.Once.{Once, OnceIn}
 use Rattle.safl_term.specs.Readiness.{Answer, Ready, LoopTo, NotYet, select, with_all, answer, answers, wanted, wanted_in, Unsent, Sent, back_word}
-use Rattle.safl_term.specs.Program.{Program, unit_for}
 use Rattle.safl_term.specs.Standing.{Stands, StandsIn}
 use Rattle.safl_term.specs.Terms.{Term, Terms, Const, Var, Op, If, Let, Call, Loop, Nil, Cons}
-use Rattle.safl_word.specs.Words.{Word}
-use Rattle.safl_word.proofs.Words.{pick_one, pick_other}
-use Rattle.safl_word.proofs.Options.{some_at}
 use Rattle.safl_term.proofs.Picking.{pick_two, pick_either, pick_cases, Takes, Skips}
-use Rattle.safl_term.proofs.Apart.{sent_unsent}
 
 -- each site that has returned is wanted
 abbrev pub Sound : (ℕ → Option Word) → List Word → Term → Type 0

@@ -1,7 +1,7 @@
 -- What holds of the machine after every legal list.
+use Rattle.safl_calls.proofs.Common.{Program, arity, bytes_eq-Decides, same_Some, unit_for}
 use Rattle.std.proofs.Common.{◌≡◌, ◌≢◌, ℕ, zero, suc, ◌<◌, ◌≤◌, List, [], ◌∷◌, length, Some, true, is_some, refl, sym, ap, ◌∙◌, subst, ⊎_elim, arith}
 use Rattle.std.proofs.lemmas.Bool.{cases_eq, eqb-true, eq-eqb, ne_eqb, leb-true, and_parts, false≢true}
-use Rattle.std.proofs.lemmas.Option.{same_Some}
 use Rattle.safl_calls.proofs.Basics.{put_at, put_off, some_none, some_of, cond_some, unsent_is}
 use Rattle.safl_calls.proofs.Bodies.{wanted_grows, settled, goes_stands, wanted_sized, goes_sized}
 use Rattle.safl_calls.proofs.Numbered.{Numbered}
@@ -9,13 +9,11 @@ use Rattle.safl_calls.specs.Machine.{State, Mode, Idle, Runs, Delivers, Event, A
 use Rattle.safl_calls.specs.Machine.{after_event, fire, accept, finish, give_back, loop_into, ended, back, put, asked, asked_as, says, says_as}
 use Rattle.safl_calls.proofs.Basics.{serves}
 use Rattle.safl_term.specs.Readiness.{Answer, Ready, LoopTo, NotYet, answer, wanted, Stage, Unsent, Sent, Returned, back_word}
-use Rattle.safl_term.specs.Program.{Program, unit_for, arity}
 use Rattle.safl_term.specs.Standing.{Stands}
 use Rattle.safl_word.specs.Words.{Word, widths}
 use Rattle.safl_term.proofs.Apart.{loop_not_yet, not_loop, ready_not_yet, returned_sent, returned_unsent, sent_unsent}
 use Rattle.safl_calls.proofs.Apart.{delivers_runs, idle_runs, runs_delivers, runs_idle}
 use Rattle.std.proofs.lemmas.List.{length-map}
-use Rattle.std.proofs.lemmas.Slice.Eq.{bytes_eq-Decides}
 
 -- a caller whose body asks for site k
 pub record Asks (C : Program) (s : State) (k : ℕ) : Type 0 where

@@ -1,4 +1,5 @@
 -- A site whose word is not kept shows its unit's last word, or its use is past.
+use Rattle.safl_calls.proofs.Common.{Program, Term, Word, arity, no_word, unit_for}
 use Rattle.std.proofs.Common.{◌≡◌, ◌≢◌, ℕ, zero, suc, ◌<◌, ◌≤◌, List, [], ◌∷◌, length, replicate, Option, Some, Bool, true, false, cond, nat_lt}
 use Rattle.std.proofs.Common.{is_some, refl, sym, ap, ◌∙◌, subst, inl, inr, ⊎_elim, ◌⊎◌, arith}
 use Rattle.std.proofs.lemmas.List.{length-replicate}
@@ -19,10 +20,7 @@ use Rattle.safl_sites.specs.Conflicts.{Reaches}
 use Rattle.safl_sites.specs.Kept.{Decides, Held, Kept}
 use Rattle.safl_calls.specs.Interference.{shown_words, shown_as, ShownWordsServe}
 use Rattle.safl_term.specs.Readiness.{Ready, LoopTo, answer, wanted, Stage, Unsent, Sent, Returned, back_word}
-use Rattle.safl_term.specs.Program.{Program, unit_for, arity}
 use Rattle.safl_term.specs.Standing.{Stands}
-use Rattle.safl_term.specs.Terms.{Term}
-use Rattle.safl_word.specs.Words.{Word, no_word}
 use Rattle.safl_term.proofs.Apart.{not_loop, returned_unsent, sent_returned, sent_unsent, unsent_returned}
 use Rattle.safl_calls.proofs.Apart.{idle_delivers, runs_delivers}
 

@@ -1,17 +1,13 @@
 -- What running twins say and want, where words that are not public differ.
+use Rattle.safl_calls.proofs.Common.{Program, Spans, SpansAll, Word, apply_prim, cases_eq, eq-eqb, false≢true, ne_eqb, pick, slot}
 use Rattle.std.proofs.Common.{◌≡◌, ℕ, zero, suc, ◌<◌, List, [], ◌∷◌, ◌++◌, Option, Some, None, Bool, true, false, cond, ◌==◌, is_some, refl, sym, ap, ◌∙◌, subst, inl, inr, ◌⊎◌, arith}
 use Rattle.std.specs.Prelude.{unwrap_or}
-use Rattle.std.proofs.lemmas.Bool.{cases_eq, eq-eqb, ne_eqb, false≢true}
 use Rattle.safl_calls.proofs.Labels.{alike_append, alike_slot, alike_all, pick_any, pick_left, pick_right, pick_same}
 use Rattle.safl_calls.specs.Labels.{Labels, Twins, t_const, t_var, t_plain, t_op, t_if, t_choose, t_left, t_right, t_let, t_call, t_loop, AllTwins, t_nil, t_cons}
 use Rattle.safl_calls.specs.Labels.{Alike, IsPlainTerm, p_const, p_var, p_op, p_if, p_let, ArePlain, p_nil, p_cons}
 use Rattle.safl_calls.specs.Picks.{first}
 use Rattle.safl_term.specs.Readiness.{apply_to, Answer, Ready, LoopTo, NotYet, answer, answers, wanted, wanted_in, both, select, with_all, ready_from, or_else, word_of}
-use Rattle.safl_term.specs.Program.{Program}
 use Rattle.safl_term.specs.Terms.{Term, Terms, Const, Var, Op, If, Let, Call, Loop, Nil, Cons}
-use Rattle.safl_term.specs.WellFormed.{Spans, SpansAll}
-use Rattle.safl_word.specs.Primitives.{apply_prim}
-use Rattle.safl_word.specs.Words.{pick, slot, Word}
 
 -- two lists of words, or none twice
 abbrev pub ListsAlike : List Bool → Option (List Word) → Option (List Word) → Type 0

@@ -1,14 +1,10 @@
 -- Where each body is its own twin, words that are not public do not change a span.
+use Rattle.safl_calls.proofs.Common.{Program, Term, Terms, Word, apply_prim, pick, slot, span, spans}
 use Rattle.std.proofs.Common.{◌≡◌, ℕ, zero, suc, List, [], ◌∷◌, ◌++◌, Bool, true, false, refl, sym, ap, ◌∙◌, subst, arith}
 use Rattle.std.proofs.lemmas.Bool.{and_parts, false≢true, true≢false}
 use Rattle.safl_calls.specs.Labels.{Labels, label, all_public, Twins, t_const, t_var, t_plain, t_op, t_if, t_choose, t_left, t_right, t_let, t_call, t_loop, AllTwins, t_nil, t_cons}
 use Rattle.safl_calls.specs.Labels.{KeepsLabels, Alike, IsBlind, IsPlainTerm, p_const, p_var, p_op, p_if, p_let, ArePlain, p_nil, p_cons}
-use Rattle.safl_calls.specs.Span.{span, spans}
 use Rattle.safl_term.specs.Meaning.{Gives, gives_const, gives_var, gives_op, gives_if, gives_let, gives_call, gives_loop, GivesAll, gives_nil, gives_cons}
-use Rattle.safl_term.specs.Program.{Program}
-use Rattle.safl_term.specs.Terms.{Term, Terms}
-use Rattle.safl_word.specs.Primitives.{apply_prim}
-use Rattle.safl_word.specs.Words.{pick, slot, Word}
 
 pub alike_append : (bs cs : List Bool) (vs ws xs ys : List Word) → Alike bs vs ws → Alike cs xs ys → Alike (bs ++ cs) (vs ++ xs) (ws ++ ys)
 alike_append [] cs [] [] xs ys h k = k

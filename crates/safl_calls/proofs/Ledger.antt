@@ -1,19 +1,13 @@
 -- What is still owed after each event, given an evaluation of main.
+use Rattle.safl_calls.proofs.Common.{Gives, IsNumbered, Main, Program, Word, back_of, cases_eq, place}
 use Rattle.std.proofs.Common.{◌≡◌, ℕ, zero, suc, ◌+◌, ◌<◌, ◌≤◌, List, true, refl, sym, ap, ◌∙◌, subst, arith, ⊎_elim, Some}
 use Rattle.std.specs.Prelude.{◌≢◌}
-use Rattle.std.proofs.lemmas.Bool.{cases_eq}
 use Rattle.safl_calls.proofs.Activities.{fresh, Activity, Free, Active, Giving, Scene, opening, mark, Step, accept_main, accept, finish, loop, return_main, give, Trail, l_none, l_more, words_of}
 use Rattle.safl_calls.proofs.Holds.{put_same, put_other, Holds, running_at, delivering_at, running_done, running_tail, running_wants}
 use Rattle.safl_calls.proofs.Preserved.{Fine, fine_step, fine_legal, fine_opening, asked_site, all_idle, moved, outside_words}
 use Rattle.safl_calls.proofs.Owed.{Weights, if_unsent, owed, owed_alike, done_owed, tail_owed, Marked, owed_call}
 use Rattle.safl_calls.specs.Machine.{put, Event, Accept, Finish, Return, LoopInto}
-use Rattle.safl_term.proofs.Places.{place}
 use Rattle.safl_term.specs.Readiness.{Stage, Unsent, Sent, Returned, Ready, LoopTo, answer, wanted}
-use Rattle.safl_term.proofs.Bridge.{back_of}
-use Rattle.safl_term.specs.Meaning.{Main, Gives}
-use Rattle.safl_term.specs.Program.{Program}
-use Rattle.safl_term.specs.WellFormed.{IsNumbered}
-use Rattle.safl_word.specs.Words.{Word}
 use Rattle.safl_term.proofs.Shows.{Asks}
 use Rattle.safl_term.proofs.Apart.{returned_not_sent, unsent_not_sent}
 

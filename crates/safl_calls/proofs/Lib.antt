@@ -1,3 +1,4 @@
+mod Common
 mod WorkedRun
 pub mod Numbered
 pub mod Basics

@@ -1,10 +1,8 @@
 -- Partial evaluation reads the words of the sites that stand in a term, and no others.
+use Rattle.safl_calls.proofs.Common.{Call, Cons, Const, If, Let, Loop, Nil, Op, Term, Terms, Var, Word, fun_ext}
 use Rattle.std.proofs.Common.{◌≡◌, ℕ, List, ◌++◌, Option, None, cond, ◌==◌, refl, ap, ◌∙◌, inl, inr}
-use Rattle.std.proofs.Math.Path.{fun_ext}
 use Rattle.safl_term.specs.Readiness.{NotYet, apply_to, loop_to, both, select, with_all, or_else, ready_from, answer, answers, wanted, wanted_in}
 use Rattle.safl_term.specs.Standing.{Stands, StandsIn}
-use Rattle.safl_term.specs.Terms.{Term, Terms, Const, Var, Op, If, Let, Call, Loop, Nil, Cons}
-use Rattle.safl_word.specs.Words.{Word}
 
 mutual
   unfolding answer Stands

@@ -1,14 +1,10 @@
 -- The laws of the machine, from those of the picture.
+use Rattle.safl_calls.proofs.Common.{IsNumbered, IsPermutation, Program, back_of, bytes_eq-Decides, sent_unsent, unit_for}
 use Rattle.std.proofs.Common.{◌≡◌, ◌≢◌, ℕ, zero, suc, ◌+◌, ◌*◌, ◌≤◌, List, [], ◌∷◌, ◌++◌, length, Some, None, cond, ◌==◌, nat_le, refl, sym, ap, ◌∙◌, subst, arith, is_some}
-use Rattle.std.specs.List.Sorted.{IsPermutation}
 use Rattle.std.proofs.lemmas.Bool.{eq-eqb, and_from, le-leb}
 use Rattle.safl_word.specs.Words.{Word, no_word, widths}
-use Rattle.safl_term.specs.Program.{Program, unit_for}
 use Rattle.safl_term.specs.Readiness.{Stage, Unsent, Returned, Answer, LoopTo, NotYet, answer, wanted}
-use Rattle.safl_term.proofs.Bridge.{back_of}
 use Rattle.safl_term.specs.Meaning.{Main, main_cost, main_calls, loops, at_function}
-use Rattle.safl_term.specs.WellFormed.{IsNumbered}
-use Rattle.safl_term.proofs.Apart.{sent_unsent}
 use Rattle.safl_calls.specs.Machine.{State, Mode, Idle, Runs, Delivers, Event, Accept, Finish, Return, LoopInto, opening, is_unsent, back, says_as}
 use Rattle.safl_calls.specs.Machine.{says, asked_as, Enabled, accept, loop_into, fire, Legal, after_event}
 use Rattle.safl_calls.proofs.Basics.{serves}
@@ -24,7 +20,6 @@ use Rattle.safl_calls.proofs.PictureLaws as law
 use Rattle.safl_calls.specs.Starts.{starts_count}
 use Rattle.safl_calls.specs.Moves.{moves_count}
 use Rattle.std.specs.Str.{bytes_eq}
-use Rattle.std.proofs.lemmas.Slice.Eq.{bytes_eq-Decides}
 
 abbrev member_in : Activity → ℕ
 member_in Free = 0

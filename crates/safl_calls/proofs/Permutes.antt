@@ -1,12 +1,11 @@
 -- Lists of word lists that have the same lists equally often are permutations of each other.
+use Rattle.safl_calls.proofs.Common.{IsPermutation, Word}
 use Rattle.std.proofs.Common.{◌≡◌, ℕ, suc, ◌<◌, List, [], ◌∷◌, length, get_or, Bool, true, false, cond, refl, ap, arith, ⊎_elim}
 use Rattle.std.specs.Prelude.{◌==◌, ◌&&◌}
 use Rattle.std.specs.List.{sum_by, remove}
-use Rattle.std.specs.List.Sorted.{IsPermutation}
 use Rattle.std.proofs.lemmas.Bool.{eqb-true, eq-eqb, and_parts, and_from, cases_Bool, false≢true}
 use Rattle.std.proofs.lemmas.List.Sums.{sum_by-cons}
 use Rattle.std.proofs.lemmas.List.Sorted.{IsPermutation-refl, IsPermutation-sym, IsPermutation-cons, IsPermutation-remove, IsPermutation-trans, sum_by-IsPermutation}
-use Rattle.safl_word.specs.Words.{Word}
 
 abbrev same_word : Word → Word → Bool
 same_word x y = (x.width == y.width) && (x.bits == y.bits)

@@ -1,14 +1,9 @@
 -- The machine's states as scenes, and its events as steps.
+use Rattle.safl_calls.proofs.Common.{Program, Word, back_of, fun_ext, not_loop, same_Some, sent_unsent, unit_for}
 use Rattle.std.proofs.Common.{◌≡◌, ◌≢◌, ℕ, zero, suc, ◌<◌, List, [], ◌∷◌, Some, cond, ◌==◌, refl, sym, ap, ◌∙◌, subst, arith, ⊎_elim}
-use Rattle.std.proofs.Math.Path.{fun_ext}
 use Rattle.std.proofs.lemmas.Bool.{cases_eq, eq-eqb, ne_eqb, and_parts}
-use Rattle.std.proofs.lemmas.Option.{same_Some}
-use Rattle.safl_word.specs.Words.{Word}
-use Rattle.safl_term.specs.Program.{Program, unit_for}
 use Rattle.safl_term.specs.Readiness.{Stage, Unsent, Sent, Returned, back_word, Ready, LoopTo, answer, wanted}
-use Rattle.safl_term.proofs.Bridge.{back_of}
 use Rattle.safl_term.specs.Standing.{Stands}
-use Rattle.safl_term.proofs.Apart.{not_loop, sent_unsent}
 use Rattle.safl_calls.specs.Machine.{State, Mode, Idle, Runs, Delivers, Event, Accept, Finish, Return, LoopInto, put, back, says_as, says, asked_as}
 use Rattle.safl_calls.specs.Machine.{asked, Enabled, ended, accept, finish, give_back, loop_into, fire, Legal, after_event}
 use Rattle.safl_calls.proofs.Basics.{serves}

@@ -1,7 +1,7 @@
 -- The laws, of the picture.
+use Rattle.safl_calls.proofs.Common.{IsNumbered, IsPermutation, Program, Returned, Stage, Term, Word, one_value}
 use Rattle.std.proofs.Common.{◌≡◌, ℕ, ◌+◌, ◌*◌, ◌≤◌, List, ◌++◌, length, refl, subst, arith}
 use Rattle.std.specs.Prelude.{◌≢◌}
-use Rattle.std.specs.List.Sorted.{IsPermutation}
 use Rattle.std.proofs.lemmas.List.Sums.{sum_by-append}
 use Rattle.safl_calls.specs.Starts.{start_count, starts_count}
 use Rattle.safl_calls.specs.Moves.{move_count, moves_count}
@@ -12,14 +12,8 @@ use Rattle.safl_calls.proofs.Ledger.{counts, counted, counted_at_most, counted_a
 use Rattle.safl_calls.proofs.Owed.{Weights, owed, owed_all}
 use Rattle.safl_calls.proofs.Progress.{progress, over}
 use Rattle.safl_calls.specs.Machine.{Event, Accept, Finish, Return, LoopInto}
-use Rattle.safl_term.proofs.Unique.{one_value}
-use Rattle.safl_term.specs.Readiness.{Stage, Returned}
 use Rattle.safl_term.specs.Meaning.{Main, main_cost, main_calls, at_function, calls_to, calls_all, Gives, GivesAll, gives_const, gives_var, gives_op}
 use Rattle.safl_term.specs.Meaning.{gives_if, gives_let, gives_call, gives_loop, gives_nil, gives_cons, cost, costs, loops, loops_all}
-use Rattle.safl_term.specs.Program.{Program}
-use Rattle.safl_term.specs.Terms.{Term}
-use Rattle.safl_term.specs.WellFormed.{IsNumbered}
-use Rattle.safl_word.specs.Words.{Word}
 use Rattle.safl_calls.proofs.Permutes.{is_words, times, counts_permute}
 use Rattle.safl_calls.proofs.Activities.{opening, Step}
 

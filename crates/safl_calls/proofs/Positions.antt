@@ -1,4 +1,5 @@
 -- Where a site that has returned stands to one that is in flight.
+use Rattle.safl_calls.proofs.Common.{Call, Cons, Const, If, Let, Loop, Nil, Op, Program, Term, Terms, Var, Word, some_at, unit_for}
 use Rattle.std.proofs.Common.{◌≡◌, ◌≢◌, ℕ, zero, suc, ◌+◌, ◌*◌, ◌<◌, ◌≤◌, List, ◌++◌, Option, Some, None, true, false, cond, is_some, refl, sym, ap, ◌∙◌, subst, inl, inr, ⊎_elim, ◌⊎◌, arith}
 use Rattle.std.proofs.lemmas.Bool.{cases_eq, cases_order, eq-eqb, ne_eqb, false≢true, true≢false}
 use Rattle.safl_calls.proofs.Bodies.{or_some, settled, settled_in, wanted_stands, wanted_stands_in}
@@ -13,11 +14,7 @@ use Rattle.safl_calls.proofs.Interference.{climb}
 use Rattle.safl_sites.specs.Conflicts.{Reaches, Here, Through, ReachesIn, Apart, ApartIn, Conflict}
 use Rattle.safl_term.proofs.Once.{Once, OnceIn}
 use Rattle.safl_term.specs.Readiness.{select, with_all, answer, answers, wanted, wanted_in, Sent, Returned}
-use Rattle.safl_term.specs.Program.{Program, unit_for}
 use Rattle.safl_term.specs.Standing.{Stands, StandsIn}
-use Rattle.safl_term.specs.Terms.{Term, Terms, Const, Var, Op, If, Let, Call, Loop, Nil, Cons}
-use Rattle.safl_word.specs.Words.{Word}
-use Rattle.safl_word.proofs.Options.{some_at}
 use Rattle.safl_term.proofs.Apart.{returned_sent}
 
 module _ (C : Program) (b : ℕ → Option Word) (a c k : ℕ) (apart : a ≢ c) (out_c : is_some (b c) ≡ false) (vp : (t : Term) → Stands c t → Reaches C k t) where

@@ -1,17 +1,10 @@
 -- Each event keeps the invariant.
+use Rattle.safl_calls.proofs.Common.{Event, Gives, IsNumbered, Program, Word, back_of, cases_eq, place, put}
 use Rattle.std.proofs.Common.{◌≡◌, ℕ, zero, suc, ◌+◌, ◌≤◌, List, Some, true, refl, sym, ap, ◌∙◌, subst, arith, ⊎_elim}
 use Rattle.std.specs.Prelude.{◌≢◌}
-use Rattle.std.proofs.lemmas.Bool.{cases_eq}
 use Rattle.safl_calls.proofs.Activities.{fresh, Activity, Free, Active, Giving, Scene, opening, mark, Step, accept_main, accept, finish, loop, return_main, give, Trail, l_none, l_more}
-use Rattle.safl_calls.specs.Machine.{put, Event}
-use Rattle.safl_term.proofs.Places.{place}
 use Rattle.safl_term.proofs.Shows.{Asks, Keeps, asks_keep}
 use Rattle.safl_term.specs.Readiness.{Stage, Unsent, Sent, Returned, wanted}
-use Rattle.safl_term.proofs.Bridge.{back_of}
-use Rattle.safl_term.specs.Meaning.{Gives}
-use Rattle.safl_term.specs.Program.{Program}
-use Rattle.safl_term.specs.WellFormed.{IsNumbered}
-use Rattle.safl_word.specs.Words.{Word}
 use Rattle.safl_term.proofs.Apart.{sent_returned, unsent_not_sent}
 use Rattle.safl_calls.proofs.Holds.{Asked, At, Holds, NotReturned, NotRunning, Running, Serves, delivering_at, frame, fresh_not, fresh_unsent}
 use Rattle.safl_calls.proofs.Holds.{from_outside, from_site, holds_finish, holds_loop, not_sent, outside_kept, put_other, put_same, running_at}

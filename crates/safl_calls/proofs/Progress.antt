@@ -1,4 +1,5 @@
 -- Until main has returned some event is enabled, and afterwards none is.
+use Rattle.safl_calls.proofs.Common.{IsNumbered, Program, Spans, Term, Word, fits_choose, place}
 use Rattle.std.proofs.Common.{◌≡◌, ℕ, zero, suc, ◌<◌, ◌≤◌, List, Some, Bool, true, refl, sym, ap, ◌∙◌, subst, arith, inl, inr}
 use Rattle.std.specs.Prelude.{◌≢◌}
 use Rattle.safl_calls.proofs.Activities.{Activity, Free, Active, Giving, Scene, Step, accept_main, accept, finish, loop, return_main, give}
@@ -6,14 +7,9 @@ use Rattle.safl_calls.proofs.Holds.{Serves, Running, Outside, running_at, delive
 use Rattle.safl_calls.proofs.Preserved.{Fine, all_idle}
 use Rattle.safl_calls.specs.Machine.{Event, Accept, Finish, Return, LoopInto}
 use Rattle.safl_term.proofs.Bridge.{View, ready, loops, waits, Wants}
-use Rattle.safl_term.proofs.Places.{place, fits_choose}
 use Rattle.safl_term.proofs.Shows.{Tail, t_loop, t_if, t_let}
 use Rattle.safl_term.specs.Readiness.{Stage, Unsent, Sent, Returned, Answer, Ready, LoopTo, NotYet, answer, wanted}
 use Rattle.safl_term.proofs.Bridge.{back_of}
-use Rattle.safl_term.specs.Program.{Program}
-use Rattle.safl_term.specs.Terms.{Term}
-use Rattle.safl_term.specs.WellFormed.{Spans, IsNumbered}
-use Rattle.safl_word.specs.Words.{Word}
 use Rattle.safl_term.proofs.Apart.{returned_not_sent}
 
 abbrev pub Enabled : Program → List Word → Scene → Type 0

@@ -1,20 +1,13 @@
 -- When a running body is ready, by an evaluation of it.
+use Rattle.safl_calls.proofs.Common.{Program, Returned, Sent, Spans, SpansAll, Stage, Term, Terms, Unsent, Word, cases_order, choose}
+use Rattle.safl_calls.proofs.Common.{fits_all_le, fits_choose, fits_le, one_list, one_value, place, place_in, span, spans}
 use Rattle.std.proofs.Common.{◌≡◌, ℕ, suc, ◌+◌, ◌<◌, ◌≤◌, max, List, ◌++◌, Bool, false, refl, sym, ap, ◌∙◌, subst, arith, inl, inr, ◌⊎◌, ⊎_elim}
 use Rattle.std.specs.Prelude.{◌≢◌}
-use Rattle.std.proofs.lemmas.Bool.{cases_order}
 use Rattle.safl_calls.proofs.Activities.{fresh}
 use Rattle.safl_calls.proofs.Owed.{Marked}
-use Rattle.safl_calls.specs.Span.{span, spans}
-use Rattle.safl_term.proofs.Places.{fits_le, fits_all_le, fits_choose, place, place_in}
 use Rattle.safl_term.proofs.Shows.{Done, d_const, d_var, d_op, d_if, d_let, d_call, DoneAll, d_nil, d_cons, Tail, t_loop, t_if, t_let, Asks, a_here}
 use Rattle.safl_term.proofs.Shows.{a_arg, a_loop, a_op, a_cond, a_branch, a_bind, a_body, AsksIn, a_head, a_tail, done_gives, done_all_gives}
-use Rattle.safl_term.proofs.Unique.{one_value, one_list}
-use Rattle.safl_term.specs.Readiness.{Stage, Unsent, Sent, Returned}
 use Rattle.safl_term.specs.Meaning.{Gives, gives_const, gives_var, gives_op, gives_if, gives_let, gives_call, gives_loop, GivesAll, gives_nil, gives_cons, cost, costs}
-use Rattle.safl_term.specs.Program.{Program}
-use Rattle.safl_term.specs.Terms.{Term, Terms}
-use Rattle.safl_term.specs.WellFormed.{Spans, SpansAll}
-use Rattle.safl_word.specs.Words.{choose, Word}
 
 -- when a call is ready whose path begins now: if it is unsent, later; if it is in flight, when it is due; if it has returned, now
 abbrev pub by_stage : Stage → ℕ → ℕ → ℕ → ℕ

@@ -1,6 +1,6 @@
 -- Where no two terms of a body that are parallel have sites in reach, at most one event is enabled.
+use Rattle.safl_calls.proofs.Common.{Program, Word, cases_eq, cases_order, false≢true, not_ready, unit_for}
 use Rattle.std.proofs.Common.{◌≡◌, ◌≢◌, ℕ, zero, suc, ◌+◌, ◌*◌, ◌<◌, ◌≤◌, List, Some, is_some, refl, sym, ap, ◌∙◌, subst, ⊎_elim, arith}
-use Rattle.std.proofs.lemmas.Bool.{cases_eq, cases_order, false≢true}
 use Rattle.safl_calls.proofs.Basics.{serves}
 use Rattle.safl_calls.proofs.Bodies.{settled}
 use Rattle.safl_calls.proofs.Interference.{Live, sent_live, wanted_here, sound_at, caller_lt, climb}
@@ -10,11 +10,8 @@ use Rattle.safl_calls.specs.Laws.{OneEvent}
 use Rattle.safl_sites.specs.Conflicts.{IsSequential}
 use Rattle.safl_calls.specs.Machine.{State, Mode, Idle, Runs, Delivers, Event, Accept, Finish, Return, LoopInto, opening, Enabled, after_event, back, says_as, says}
 use Rattle.safl_sites.specs.Conflicts.{Here}
-use Rattle.safl_term.specs.Program.{Program, unit_for}
 use Rattle.safl_term.specs.Readiness.{Answer, Ready, LoopTo, NotYet, answer, Sent, back_word}
-use Rattle.safl_word.specs.Words.{Word}
 use Rattle.safl_term.proofs.Apart.{loop_not_yet, not_loop, ready_not_yet, sent_unsent}
-use Rattle.safl_term.proofs.Widths.{not_ready}
 use Rattle.safl_calls.proofs.Apart.{delivers_runs}
 
 yet_or : (a : Answer) → ((a ≡ NotYet → ⊥) → ⊥) → a ≡ NotYet

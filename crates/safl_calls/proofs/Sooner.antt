@@ -1,4 +1,5 @@
 -- No list of cycles is shorter than the span of main's evaluation.
+use Rattle.safl_calls.proofs.Common.{IsNumbered, Main, Program, Returned, Word}
 use Rattle.std.proofs.Common.{◌≡◌, ℕ, suc, ◌+◌, ◌<◌, ◌≤◌, List, [], ◌∷◌, ◌++◌, length, refl, sym, ap, ◌∙◌, subst, arith}
 use Rattle.safl_calls.proofs.Basics.{after_append, legal_front}
 use Rattle.safl_calls.proofs.Invariant.{Inv, inv_fire, inv_open}
@@ -9,11 +10,6 @@ use Rattle.safl_calls.proofs.Timely.{Timed, Prompt, timed_later, timed_step, Awa
 use Rattle.safl_calls.specs.Cycles.{since_event, since_events, MayAll, InCycles, all_events}
 use Rattle.safl_calls.specs.Machine.{State, Event, opening, Legal, after_event, fire}
 use Rattle.safl_calls.specs.Span.{main_span}
-use Rattle.safl_term.specs.Meaning.{Main}
-use Rattle.safl_term.specs.Program.{Program}
-use Rattle.safl_term.specs.Readiness.{Returned}
-use Rattle.safl_term.specs.WellFormed.{IsNumbered}
-use Rattle.safl_word.specs.Words.{Word}
 use Rattle.safl_term.proofs.Apart.{unsent_returned}
 
 legal_back : (C : Program) (args : List Word) (s : State) (xs ys : List Event) → Legal C args s (xs ++ ys) → Legal C args (after_event C args s xs) ys

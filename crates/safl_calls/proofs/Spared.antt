@@ -1,16 +1,12 @@
 -- Where the word of a site no longer matters.
+use Rattle.safl_calls.proofs.Common.{Primitive, Word, apply_prim, bool_at, fun_ext, slot}
 use Rattle.std.proofs.Common.{◌≡◌, ℕ, zero, suc, List, [], ◌∷◌, ◌++◌, length, length-append, Option, Some, None, Bool, true, false, cond, ◌||◌, ◌==◌}
 use Rattle.std.proofs.Common.{is_some, refl, ap, ◌∙◌, subst, inl, inr, arith}
-use Rattle.std.proofs.Math.Path.{fun_ext}
 use Rattle.std.proofs.lemmas.Bool.{eqb-false, false≢true, true≢false, or_parts, false_from_ne_true}
 use Rattle.safl_sites.specs.Kept.{feeds, feeds_any, feeds_each, Uses, UsesIn, Decides, DecidesIn}
 use Rattle.safl_term.specs.Readiness.{Answer, Ready, LoopTo, NotYet, apply_to, loop_to, both, select, with_all, or_else, ready_from, answer, answers, wanted, wanted_in}
 use Rattle.safl_term.specs.Terms.{Term, Terms, Const, Var, Op, If, Let, Call, Loop, Nil, Cons}
-use Rattle.safl_word.specs.Words.{Word, slot}
 use Rattle.safl_term.proofs.Picking.{pick_two}
-use Rattle.safl_word.specs.declared.primitive.Primitive.{Primitive}
-use Rattle.safl_word.specs.Primitives.{apply_prim}
-use Rattle.safl_word.specs.Lists.{bool_at}
 use Rattle.safl_term.proofs.OrElse.{or_alike}
 
 -- the words of two environments agree where no feed says otherwise

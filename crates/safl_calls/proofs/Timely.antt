@@ -1,26 +1,17 @@
 -- No unit delivers before it is due, given an evaluation of main.
+use Rattle.safl_calls.proofs.Common.{Event, Gives, IsNumbered, Program, Word, back_of, cases_eq, cases_order, not_ready, place, put, span}
 use Rattle.std.proofs.Common.{◌≡◌, ℕ, suc, ◌+◌, ◌<◌, ◌≤◌, max, List, Some, true, is_some, refl, sym, ap, ◌∙◌, subst, arith, inl, inr, ◌⊎◌, ⊎_elim}
 use Rattle.std.specs.Prelude.{◌≢◌}
-use Rattle.std.proofs.lemmas.Bool.{cases_eq, cases_order}
 use Rattle.safl_calls.proofs.Activities.{fresh, Activity, Free, Active, Giving, Scene, mark, Step, accept_main, accept, finish, loop, return_main, give}
 use Rattle.safl_calls.proofs.Holds.{put_same, put_other, Holds, Outside, Serves, running_at, delivering_at, running_done, running_tail, running_wants}
 use Rattle.safl_calls.proofs.Preserved.{Fine, all_idle, asked_site, moved, outside_words}
 use Rattle.safl_calls.proofs.Owed.{Marked}
 use Rattle.safl_calls.proofs.Ready.{by_stage, ready, ready_from, ready_later, ready_fresh, ready_alike, done_ready, tail_ready, Dues, ready_call}
 use Rattle.safl_calls.proofs.Waiting.{Standing, is_done, is_tail, is_stuck, Late, standing, done_answers, tail_answers, asks_wanted}
-use Rattle.safl_calls.specs.Machine.{put, Event}
 use Rattle.safl_calls.specs.Cycles.{since_event, MayAct}
-use Rattle.safl_calls.specs.Span.{span}
-use Rattle.safl_term.proofs.Places.{place}
 use Rattle.safl_term.specs.Readiness.{Stage, Unsent, Sent, Returned, Ready, LoopTo, NotYet, answer, wanted}
-use Rattle.safl_term.proofs.Bridge.{back_of}
-use Rattle.safl_term.specs.Meaning.{Gives}
-use Rattle.safl_term.specs.Program.{Program}
-use Rattle.safl_term.specs.WellFormed.{IsNumbered}
-use Rattle.safl_word.specs.Words.{Word}
 use Rattle.safl_term.proofs.Shows.{Asks}
 use Rattle.safl_term.proofs.Apart.{unsent_not_sent, not_loop}
-use Rattle.safl_term.proofs.Widths.{not_ready}
 
 -- when the sites in flight are due, by when their units are
 abbrev pub by_site : Program → (ℕ → ℕ) → ℕ → ℕ

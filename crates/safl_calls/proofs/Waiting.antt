@@ -1,22 +1,15 @@
 -- A body that is not ready and asks for no unsent site is ready no later if its path begins a cycle later.
+use Rattle.safl_calls.proofs.Common.{Primitive, Program, Spans, SpansAll, Term, Terms, Word, choose, eq-eqb, false≢true, fits_all_le}
+use Rattle.safl_calls.proofs.Common.{fits_choose, fits_le, ne_eqb, one_list, one_value, pick, place_in, span}
 use Rattle.std.proofs.Common.{◌≡◌, ℕ, zero, suc, ◌+◌, ◌<◌, ◌≤◌, List, ◌++◌, Option, Some, None, Bool, true, false, cond, is_some, refl, sym, ap, ◌∙◌, subst, arith}
-use Rattle.std.proofs.lemmas.Bool.{false≢true, eq-eqb, ne_eqb}
 use Rattle.safl_calls.proofs.Bodies.{or_first, or_second}
 use Rattle.safl_calls.proofs.Ready.{by_stage, ready, ready_all, ready_from, ready_all_from, ready_later, done_ready, done_all_ready}
-use Rattle.safl_calls.specs.Span.{span}
 use Rattle.safl_term.proofs.Bridge.{back_of, Held, HeldIn, part_cond, part_branch, part_bind, part_body, part_head, part_tail, part_op, part_loop, part_arg, part_here}
-use Rattle.safl_term.proofs.Places.{fits_le, fits_all_le, fits_choose, place_in}
 use Rattle.safl_term.proofs.Shows.{Done, d_const, d_var, d_op, d_if, d_let, d_call, DoneAll, d_nil, d_cons, Tail, t_loop, t_if, t_let, Asks, a_here}
 use Rattle.safl_term.proofs.Shows.{a_arg, a_loop, a_op, a_cond, a_branch, a_bind, a_body, AsksIn, a_head, a_tail, done_all_gives}
-use Rattle.safl_term.proofs.Unique.{one_value, one_list}
 use Rattle.safl_term.specs.Readiness.{Stage, Unsent, Sent, Returned, back_word, Answer, Ready, LoopTo, NotYet, answer, answers, wanted, wanted_in}
 use Rattle.safl_term.specs.Readiness.{both, select, apply_to, loop_to, with_all, ready_from as ready_word}
 use Rattle.safl_term.specs.Meaning.{Gives, gives_const, gives_var, gives_op, gives_if, gives_let, gives_call, gives_loop, GivesAll, gives_nil, gives_cons, cost, costs}
-use Rattle.safl_term.specs.Program.{Program}
-use Rattle.safl_term.specs.Terms.{Term, Terms}
-use Rattle.safl_term.specs.WellFormed.{Spans, SpansAll}
-use Rattle.safl_word.specs.Words.{choose, pick, Word}
-use Rattle.safl_word.specs.declared.primitive.Primitive.{Primitive}
 
 -- a branch that is selected says what the selected branch says
 pick_says : (b : Term → Answer) (n : ℕ) (x y : Term) → pick n (b x) (b y) ≡ b (pick n x y)

@@ -1,8 +1,7 @@
 -- A whole run of the machine by computation.
+use Rattle.safl_calls.proofs.Common.{Call, Cons, Const, If, Loop, Op, Program, Var}
 use Rattle.std.proofs.Common.{◌≡◌, List, [], ◌∷◌, refl}
 use Rattle.safl_word.specs.declared.primitive.Primitive.TheVariants.{Eq}
-use Rattle.safl_term.specs.Terms.{Const, Var, Op, If, Call, Loop, Cons}
-use Rattle.safl_term.specs.Program.{Program}
 use Rattle.safl_term.specs.Fuel.{Gave, apply}
 use Rattle.safl_term.specs.Readiness.{Returned, answer, wanted}
 use Rattle.safl_sites.proofs.SmallPrograms.{byte, just, next, main_over}

@@ -1,22 +1,16 @@
 -- Names that stand earlier, and the members of a group one by one.
+use Rattle.safl_check.proofs.Common.{Def, Fault, Param, bytes_eq, list_any, option_map, or_else}
 use Rattle.std.proofs.Common.{◌≡◌, ℕ, zero, suc, ◌+◌, ◌<◌, ◌≤◌, arith, List, [], ◌∷◌, length, map, take, drop, get_or, Bool, true, false, cond}
 use Rattle.std.proofs.Common.{Option, Some, None, IfSome, refl, sym, ap, subst, ◌∙◌, ⊎_elim}
 use Rattle.std.specs.Prelude.{◌||◌, ◌==◌, slice_get}
-use Rattle.std.specs.List.{list_any}
-use Rattle.std.specs.Str.{bytes_eq}
-use Rattle.std.specs.Option.{option_map}
 use Rattle.std.proofs.lemmas.Bool.{eq-eqb, ne_eqb}
 use Rattle.std.proofs.lemmas.List.{drop_more, drop-map}
 use Rattle.std.proofs.lemmas.List.Folds.{list_any_more}
 use Rattle.std.proofs.lemmas.Option.{slice_get_read, slice_get_cases, slice_get-map}
 use Rattle.std.proofs.Math.Bool.{or_comm}
 use Rattle.safl_word.specs.declared.fault.Rule.TheVariants as rules
-use Rattle.safl_word.specs.declared.fault.Fault.{Fault}
 use Rattle.safl_tree.specs.Tree.{Definition, Parameter}
 use Rattle.safl_tree.specs.Shown.{shown_definition, shown_definitions, shown_parameters}
-use Rattle.safl_tree.specs.declared.tree.Def.{Def}
-use Rattle.safl_tree.specs.declared.tree.Param.{Param}
-use Rattle.safl_term.specs.Readiness.{or_else}
 use Rattle.safl_typing.specs.Walk.{fault, fault_with, needs, repeated, placed_params, head_fault, joined_faults}
 use Rattle.safl_typing.specs.Rewriting.{Placed}
 use Rattle.safl_check.specs.Groups.{name_in, earlier, first_group_fault, group_fault_at}

@@ -1,7 +1,6 @@
 -- The first of two faults.
+use Rattle.safl_check.proofs.Common.{Fault, or_else}
 use Rattle.std.proofs.Common.{◌≡◌, Bool, true, false, Option, Some, None, refl, sym, ap, ◌∙◌}
-use Rattle.safl_word.specs.declared.fault.Fault.{Fault}
-use Rattle.safl_term.specs.Readiness.{or_else}
 use Rattle.safl_typing.specs.Walk.{needs}
 
 pub first_of : (a b c : Option Fault) (f : Fault) → a ≡ or_else b c → Some f ≡ b → a ≡ Some f

@@ -1,11 +1,9 @@
 -- Heads and bodies, one by one.
+use Rattle.safl_check.proofs.Common.{Def, shown_definition, shown_definitions, shown_head, shown_heads}
 use Rattle.std.proofs.Common.{◌≡◌, ℕ, suc, ◌+◌, ◌<◌, ◌≤◌, arith, List, [], ◌∷◌, ◌++◌, length, map, take, drop, get_or, refl, sym, ap, ◌∙◌, append_assoc}
 use Rattle.std.proofs.lemmas.List.{map-append, take_more, drop_more, take_all}
-use Rattle.safl_tree.specs.Shown.{shown_definition, shown_definitions}
-use Rattle.safl_tree.specs.declared.tree.Def.{Def}
 use Rattle.safl_typing.specs.declared.heads.Head as code
 use Rattle.safl_typing.specs.Heads.{Head, unit_of, head_of, heads_from, heads}
-use Rattle.safl_typing.specs.PlainHeads.{shown_head, shown_heads}
 
 -- one more element at the end of two lists that show the same
 pub shown_next : {A B C D : Type 0} (s : A → B) (f : B → C) (g : D → C) (xs : List A) (i : ℕ) (x : A) (old new : List D) (y : D)

@@ -1,3 +1,4 @@
+mod Common
 mod Remaining
 mod Walked
 mod HeadsAndBodies

@@ -1,24 +1,16 @@
 -- Limits, definition by definition, and the last definition.
+use Rattle.safl_check.proofs.Common.{Def, Definition, Fault, Param, bytes_eq, drop_more, known, option_map, or_else, shown_heads}
 use Rattle.std.proofs.Common.{◌≡◌, ℕ, zero, suc, ◌+◌, ◌-◌, ◌<◌, ◌≤◌, arith, List, [], ◌∷◌, length, map, drop, get_or, Bool, true, false, Option, Some, None, refl, sym, ap, ◌∙◌}
 use Rattle.std.specs.Prelude.{min, nat_lt, nat_le, slice_get, codes}
-use Rattle.std.specs.Str.{bytes_eq}
 use Rattle.std.proofs.lemmas.Bool.{ltb-true, ltb-false, leb-true, le-leb}
 use Rattle.std.proofs.lemmas.Bool.Decides.{same_from_decides}
-use Rattle.std.proofs.lemmas.List.{drop_more}
 use Rattle.std.proofs.lemmas.Option.{slice_get_read, slice_get_past, slice_get-map}
-use Rattle.std.specs.Option.{option_map}
 use Rattle.safl_word.specs.declared.fault.Rule.TheVariants as rules
-use Rattle.safl_word.specs.declared.fault.Fault.{Fault}
-use Rattle.safl_tree.specs.Tree.{Definition}
 use Rattle.safl_tree.specs.Shown.{shown_definition, shown_definitions, shown_parameters}
-use Rattle.safl_tree.specs.declared.tree.Param.{Param}
-use Rattle.safl_tree.specs.declared.tree.Def.{Def}
 use Rattle.safl_word.specs.Limits.{bindings_max, params_max, sites_max, nodes_max}
 use Rattle.safl_typing.specs.Heads.{Head, sites, unit_of}
 use Rattle.safl_typing.specs.declared.heads.Head as code_head
-use Rattle.safl_typing.specs.PlainHeads.{shown_heads, known}
 use Rattle.safl_typing.specs.Rewriting.{Expression, rewritten, nodes, excess, long_let}
-use Rattle.safl_term.specs.Readiness.{or_else}
 use Rattle.safl_term.proofs.OrElse.{or_else_assoc}
 use Rattle.safl_typing.specs.Walk.{fault, fault_with, needs, limit, limits_from, main_fault}
 use Rattle.safl_check.proofs.FirstOfTwo.{first_of, second_of, none_both, needs_none}

@@ -1,18 +1,14 @@
 -- Names as text, and parameters.
+use Rattle.safl_check.proofs.Common.{Param, Slot, shown_param, shown_parameter, shown_parameters, slot_of, string_bytes}
 use Rattle.std.proofs.Common.{◌≡◌, ℕ, zero, suc, ◌+◌, ◌<◌, List, [], ◌∷◌, ◌++◌, get_or, take, length, map, subst, Global, String, true}
 use Rattle.std.proofs.Common.{◌||◌, leb, sym, ap, ◌∙◌, arith, ⊎_elim}
 use Rattle.std.specs.List.{list_all}
-use Rattle.std.specs.String.{string_bytes}
 use Rattle.std.specs.Str.{IsUtf8}
 use Rattle.std.proofs.lemmas.Bool.{leb-true, eqb-true, and_parts, or_cases}
 use Rattle.std.proofs.lemmas.Str.{IsUtf8-from_ascii}
 use Rattle.std.proofs.lemmas.List.{map-append}
 use Rattle.safl_term.specs.declared.checked.Parameter.{Parameter}
-use Rattle.safl_tree.specs.declared.tree.Param.{Param}
 use Rattle.safl_tree.specs.Printable.{AreFormedParameters}
-use Rattle.safl_tree.specs.Shown.{shown_parameter, shown_parameters}
-use Rattle.safl_typing.specs.Forms.{shown_param}
-use Rattle.safl_typing.specs.Heads.{Slot, slot_of}
 use Rattle.safl_word.specs.Numerals.{between}
 use Rattle.safl_word.specs.Tokens.{IsSourceName, IsNameLike, in_name, begins_name}
 

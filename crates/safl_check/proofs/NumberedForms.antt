@@ -1,9 +1,8 @@
 -- What a checked program has by its functions and sites, and what its form has.
+use Rattle.safl_check.proofs.Common.{Function, Site, length-map, string_bytes}
 use Rattle.std.proofs.Common.{◌≡◌, ℕ, zero, suc, ◌-◌, List, [], ◌∷◌, length, map, Option, Some, None, refl, sym, ap, ◌∙◌}
 use Rattle.std.specs.Prelude.{slice_get}
 use Rattle.std.specs.Option.{option_map_or, option_map}
-use Rattle.std.specs.String.{string_bytes}
-use Rattle.std.proofs.lemmas.List.{length-map}
 use Rattle.std.proofs.lemmas.Option.{slice_get-map}
 use Rattle.safl_word.specs.Words.{no_word}
 use Rattle.safl_term.specs.Checked.{CheckedProgram}
@@ -12,9 +11,7 @@ use Rattle.safl_term.specs.Tables.{Tables, program_of, name_of}
 use Rattle.safl_term.proofs.HeldByChecked.{each_checked}
 use Rattle.safl_term.specs.Terms.{Const}
 use Rattle.safl_term.specs.Tree.{shown_term}
-use Rattle.safl_term.specs.declared.checked.Function.{Function}
 use Rattle.safl_term.specs.declared.checked.Parameter.{Parameter}
-use Rattle.safl_term.specs.declared.checked.Site.{Site}
 use Rattle.safl_typing.specs.Forms.{FunctionForm, form_of, shown_function, shown_param}
 use Rattle.safl_check.specs.Numbered.{form_function, form_site, program_in, name_in, param_names_in}
 use Rattle.safl_check.specs.Laws.{IsNumbered}

@@ -1,25 +1,15 @@
 -- The outcome of the walk, by its parts.
+use Rattle.safl_check.proofs.Common.{CheckErr, Def, Definition, Fault, Function, RefusesFault, Site, functions_max, heads, length-map}
+use Rattle.safl_check.proofs.Common.{or_else, shown_definition, shown_definitions}
 use Rattle.std.proofs.Common.{◌≡◌, suc, ◌≤◌, List, [], length, map, Option, Some, None, inl, inr, refl, sym, ◌∙◌, subst, arith}
 use Rattle.std.specs.Prelude.{Ok, Err}
 use Rattle.std.specs.Result.{result_err}
-use Rattle.std.proofs.lemmas.List.{length-map}
-use Rattle.safl_word.specs.declared.fault.Fault.{Fault}
-use Rattle.safl_term.specs.declared.checked.Function.{Function}
-use Rattle.safl_term.specs.declared.checked.Site.{Site}
-use Rattle.safl_tree.specs.Tree.{Definition}
-use Rattle.safl_tree.specs.Shown.{shown_definition, shown_definitions}
-use Rattle.safl_tree.specs.declared.tree.Def.{Def}
 use Rattle.safl_tree.specs.Printable.{IsFormedProgram}
-use Rattle.safl_typing.specs.Heads.{heads}
 use Rattle.safl_typing.specs.Forms.{FunctionForm, Form, AreShallow, IsFormOf, all_sites, form_of, shown_function}
-use Rattle.safl_word.specs.Limits.{functions_max}
 use Rattle.safl_typing.specs.Laws.{WalkGivesForm}
-use Rattle.safl_typing.specs.PlainTyped.{RefusesFault}
-use Rattle.safl_term.specs.Readiness.{or_else}
 use Rattle.safl_typing.specs.Walk.{limits, limits_from, limit, functions_from, main_fault, outcome}
 use Rattle.safl_typing.specs.Rewriting.{excess}
 use Rattle.safl_typing.specs.FirstFault.{first_fault}
-use Rattle.safl_typing.specs.declared.typed.CheckErr.{CheckErr}
 use Rattle.safl_typing.specs.declared.typed.CheckErr.TheVariants as errors
 use Rattle.safl_typing.proofs.Limits.{none_limit, none_excess}
 use Rattle.safl_typing.proofs.Walks.{as_many}

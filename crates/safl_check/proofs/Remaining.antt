@@ -1,8 +1,8 @@
 -- The definitions that are left of a walk: their bodies may be checked, where no limit is passed.
+use Rattle.safl_check.proofs.Common.{known, length-map, shown_expression, shown_head, shown_heads, shown_slots}
 use Rattle.std.proofs.Common.{◌≡◌, ℕ, suc, ◌+◌, ◌<◌, ◌≤◌, ◌^◌, List, [], ◌∷◌, length, map, None, refl, sym, ap, ◌∙◌, subst, arith}
 use Rattle.std.specs.Prelude.{nat_le}
 use Rattle.std.proofs.lemmas.Bool.{leb-true}
-use Rattle.std.proofs.lemmas.List.{length-map}
 use Rattle.safl_tree.specs.Tree.{Definition, Parameter}
 use Rattle.safl_tree.specs.Printable.{AreFormedDefinitions, IsFormedProgram}
 use Rattle.safl_typing.specs.declared.expression.Expression as code_expression
@@ -13,8 +13,6 @@ use Rattle.safl_typing.specs.Heads.{Slot, Head, Known, unit_of, slot_of, params_
 use Rattle.safl_word.specs.Limits.{bindings_max, functions_max, params_max, sites_max, nodes_max}
 use Rattle.safl_typing.specs.Ranges.{WideSlots, WideHeads, IsInRange}
 use Rattle.safl_typing.specs.Walk.{fault_with, needs, limit, limits_from, limits}
-use Rattle.safl_typing.specs.Plain.{shown_expression}
-use Rattle.safl_typing.specs.PlainHeads.{shown_slots, shown_head, shown_heads, known}
 use Rattle.safl_typing.specs.MayWalk.{CountParams, MayCheck}
 use Rattle.safl_typing.proofs.Formed.{params_wide, heads_wide, formed_range}
 use Rattle.safl_typing.proofs.Limits.{none_both, none_limit, none_excess}

@@ -1,16 +1,10 @@
 -- Definitions with one name, by their heads.
+use Rattle.safl_check.proofs.Common.{Def, Definition, bytes_eq, list_any, option_map, shown_definition, shown_definitions, shown_heads}
 use Rattle.std.proofs.Common.{◌≡◌, ℕ, zero, suc, ◌<◌, ◌≤◌, arith, List, [], ◌∷◌, length, get_or, Bool, true, false, cond, Option, Some, None, is_some, refl, sym, ap, ◌∙◌, ⊎_elim}
 use Rattle.std.specs.Prelude.{◌||◌, slice_get}
-use Rattle.std.specs.List.{list_any}
-use Rattle.std.specs.Str.{bytes_eq}
-use Rattle.std.specs.Option.{option_map}
 use Rattle.std.proofs.lemmas.Option.{slice_get_read, slice_get_cases, slice_get-map}
-use Rattle.safl_tree.specs.Tree.{Definition}
-use Rattle.safl_tree.specs.Shown.{shown_definition, shown_definitions}
-use Rattle.safl_tree.specs.declared.tree.Def.{Def}
 use Rattle.safl_typing.specs.declared.heads.Head as code
 use Rattle.safl_typing.specs.Heads.{Head, unit_of, heads_from, heads}
-use Rattle.safl_typing.specs.PlainHeads.{shown_heads}
 use Rattle.safl_typing.specs.Named.{name_of, has_name, last_named, before_it}
 use Rattle.safl_check.specs.Groups.{name_in, earlier}
 

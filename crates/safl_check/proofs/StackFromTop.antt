@@ -1,17 +1,14 @@
 -- A stack of expressions, from its top down.
+use Rattle.safl_check.proofs.Common.{Bind, drop_more, on_ok_weaker, option_or}
 use Rattle.std.proofs.Common.{◌≡◌, ℕ, ◌+◌, ◌*◌, ◌-◌, ◌<◌, ◌≤◌, arith, List, [], ◌∷◌, ◌++◌, length, map, drop, get_or, Vec, Box, Global, Option, refl, sym, ap, subst, ◌∙◌, append_assoc}
 use Rattle.std.specs.Prelude.{min, Result, OnOk}
-use Rattle.std.proofs.lemmas.List.{drop_more}
-use Rattle.std.specs.Option.{option_or}
 use denote.Ref.{Bor}
-use Rattle.std.proofs.lemmas.Result.{on_ok_weaker}
 use Rattle.safl_word.specs.declared.primitive.Primitive.{Primitive}
 use Rattle.safl_tree.specs.Tree.{Tree, trees_of, binds_of, arms_of}
 use Rattle.safl_tree.specs.Shown.{shown_tree, shown_node, shown_trees, shown_bounds, shown_labelled}
 use Rattle.safl_tree.specs.declared.tree.Node.{Node}
 use Rattle.safl_tree.specs.declared.tree.Node.TheVariants.{If, Let, Case, Op, Call}
 use Rattle.safl_tree.specs.declared.tree.Expr.{Expr}
-use Rattle.safl_tree.specs.declared.tree.Bind.{Bind}
 use Rattle.safl_tree.specs.declared.tree.Arm.{Arm}
 use Rattle.safl_check.specs.Parts as shown
 use Rattle.safl_check.specs.Parts.{trees_in, values_in, arms_in, parts, pending, values_of, arm_count, own_nodes, own_sites, own_long_let, total_nodes}

@@ -1,28 +1,20 @@
 -- The functions of the definitions so far, and what the walk over the others adds to them.
+use Rattle.safl_check.proofs.Common.{CheckErr, Def, Definition, Fault, Function, RefusesFault, known, shown_definition, shown_definitions}
+use Rattle.safl_check.proofs.Common.{shown_expression, shown_heads, shown_slots, slice_get_read}
 use Rattle.std.proofs.Common.{◌≡◌, ℕ, suc, ◌+◌, ◌<◌, ◌≤◌, List, [], ◌∷◌, ◌++◌, length, map, drop, get_or, append_assoc, Option, Some, None, true, refl, sym, ap, ◌∙◌, subst, arith}
 use Rattle.std.specs.Prelude.{Result, Ok, Err, slice_get, min}
 use Rattle.std.proofs.Math.ListN.{get_or-map}
 use Rattle.std.proofs.Math.Numerals.{add-one}
 use Rattle.std.proofs.lemmas.List.{drop_all, append-nil, length-map, map-append}
-use Rattle.std.proofs.lemmas.Option.{slice_get_read}
-use Rattle.safl_word.specs.declared.fault.Fault.{Fault}
 use Rattle.safl_word.proofs.Lists.{drop_read}
-use Rattle.safl_term.specs.declared.checked.Function.{Function}
-use Rattle.safl_tree.specs.declared.tree.Def.{Def}
-use Rattle.safl_tree.specs.Shown.{shown_definition, shown_definitions}
-use Rattle.safl_tree.specs.Tree.{Definition}
 use Rattle.safl_tree.specs.Printable.{IsFormedDefinition, IsFormedProgram}
 use Rattle.safl_typing.specs.declared.expression.Expression as code_expression
 use Rattle.safl_typing.specs.declared.heads.Head as code_head
-use Rattle.safl_typing.specs.declared.typed.CheckErr.{CheckErr}
 use Rattle.safl_typing.specs.declared.typed.CheckErr.TheVariants as errors
 use Rattle.safl_typing.specs.Rewriting.{Expression, rewritten}
 use Rattle.safl_typing.specs.Heads.{Slot, Head, Known, unit_of, params_of, heads, sites}
 use Rattle.safl_typing.specs.Forms.{FunctionForm, shown_function}
 use Rattle.safl_typing.specs.Walk.{Exactly, after, unless, limits, check, group_fault, function, functions_from}
-use Rattle.safl_typing.specs.Plain.{shown_expression}
-use Rattle.safl_typing.specs.PlainHeads.{shown_slots, shown_heads, known}
-use Rattle.safl_typing.specs.PlainTyped.{RefusesFault}
 use Rattle.safl_typing.specs.MayWalk.{MayCheck}
 use Rattle.safl_check.specs.Groups.{name_in, earlier, first_group_fault, group_fault_at}
 use Rattle.safl_check.specs.Functions.{checked_function}

@@ -1,30 +1,21 @@
 -- The Accepts of a cycle.
+use Rattle.safl_circuit.proofs.Common.{Choice, Inv, Numbered, Program, bytes_eq-Decides, fun_ext, is_delivering, is_running, none_of}
+use Rattle.safl_circuit.proofs.Common.{same_Some, sent_unsent, unit_for, unwrap_or}
 use Rattle.std.proofs.Common.{◌≡◌, ℕ, zero, suc, ◌<◌, ◌≤◌, List, [], Option, Some, None, Bool, true, false, cond, not, ◌&&◌, ◌==◌, nat_lt}
-use Rattle.std.specs.Prelude.{unwrap_or}
-use Rattle.safl_sites.specs.Plan.{Choice}
 use Rattle.std.proofs.Common.{nat_le, is_some, refl, sym, ap, ◌∙◌, subst, inl, inr, ⊎_elim, ◌⊎◌, arith}
-use Rattle.std.proofs.Math.Path.{fun_ext}
 use Rattle.std.proofs.lemmas.Bool.{cases_Bool, cases_eq, cases_order, eqb-true, eq-eqb, le-ltb, leb-true, and_parts, not-true, true≢false}
-use Rattle.std.proofs.lemmas.Option.{same_Some}
 use Rattle.safl_circuit.proofs.Middle.{member_says}
 use Rattle.safl_circuit.specs.Equations.{Registers, Inputs, accepts, body_says, body_wants, want, wants_at, go, go_words}
 use Rattle.safl_circuit.proofs.Searched.{go_in}
-use Rattle.safl_circuit.specs.Steps.{is_running, is_delivering}
 use Rattle.safl_calls.proofs.Basics.{put_at, put_off, sweep, first_none, first_only, first_skip, first_zero, all_none, some_none, some_of}
 use Rattle.safl_calls.proofs.Basics.{cond_some, unsent_is, mask_other, mask_skip, mask_at}
-use Rattle.safl_calls.proofs.Invariant.{Inv}
-use Rattle.safl_calls.proofs.Numbered.{Numbered}
 use Rattle.safl_calls.specs.Machine.{State, Mode, Idle, Runs, Delivers, Accept, Enabled, Legal, after_event, fire, put, back, asked, asked_as, is_unsent}
 use Rattle.safl_calls.proofs.Basics.{serves}
 use Rattle.safl_calls.specs.Picks.{first}
 use Rattle.safl_calls.specs.Interference.{Busy}
 use Rattle.safl_term.specs.Readiness.{Unsent, Sent, back_word}
-use Rattle.safl_term.specs.Program.{Program, unit_for}
 use Rattle.safl_word.specs.Words.{Word, widths}
-use Rattle.safl_word.proofs.Options.{none_of}
-use Rattle.safl_term.proofs.Apart.{sent_unsent}
 use Rattle.std.specs.Str.{bytes_eq}
-use Rattle.std.proofs.lemmas.Slice.Eq.{bytes_eq-Decides}
 
 -- the wires of a cycle say what the state after its Returns says
 pub record Meets (C : Program) (P : Choice) (args : List Word) (r : Registers) (i : Inputs) (t : State) : Type 0 where

@@ -1,19 +1,13 @@
 -- In a cycle each unit changes at most once, and acts by what it did before.
+use Rattle.safl_circuit.proofs.Common.{Choice, Inv, LoopTo, Numbered, Program, Ready, Word, cases_eq, unit_for}
 use Rattle.std.proofs.Common.{◌≡◌, ◌≢◌, ℕ, zero, suc, ◌<◌, ◌≤◌, List, [], ◌∷◌, ◌++◌, Bool, true, false, cond, is_some, refl, sym, ap, ◌∙◌, subst, inl, inr, ◌⊎◌, ⊎_elim, arith}
-use Rattle.safl_sites.specs.Plan.{Choice}
-use Rattle.std.proofs.lemmas.Bool.{cases_eq}
 use Rattle.safl_circuit.proofs.Accepts.{Meets, asked_parts, not_idle}
 use Rattle.safl_circuit.proofs.OneMove.{accept_on, finish_on, loop_on}
 use Rattle.safl_circuit.specs.Equations.{Registers, Inputs, ret, go, returns, accepts, finishes, goes_on, cycle_events, end_word, loop_words}
 use Rattle.safl_calls.proofs.Basics.{put_at, put_off}
-use Rattle.safl_calls.proofs.Invariant.{Inv}
-use Rattle.safl_calls.proofs.Numbered.{Numbered}
 use Rattle.safl_calls.specs.Cycles.{since_event, since_events, MayAct, MayAll}
 use Rattle.safl_calls.specs.Machine.{State, Mode, Idle, Runs, Event, Accept, Finish, Return, LoopInto, Enabled, back, put, says, says_as}
 use Rattle.safl_calls.specs.Picks.{picks}
-use Rattle.safl_term.specs.Program.{Program, unit_for}
-use Rattle.safl_term.specs.Readiness.{Ready, LoopTo}
-use Rattle.safl_word.specs.Words.{Word}
 use Rattle.safl_term.proofs.Apart.{not_loop}
 
 module _ (C : Program) (c : ℕ) where

@@ -1,20 +1,15 @@
 -- The wires of a cycle, and what it leaves, depend on the registers that exist.
+use Rattle.safl_circuit.proofs.Common.{Choice, Numbered, Program, Stands, cond_cong, first_cong, unit_for}
 use Rattle.std.proofs.Common.{◌≡◌, ℕ, zero, suc, ◌<◌, ◌≤◌, Some, None, Bool, true, false, cond, not, ◌&&◌, ◌||◌, ◌==◌, nat_le, is_some, refl, ap, ◌∙◌, arith}
-use Rattle.safl_sites.specs.Plan.{Choice}
 use Rattle.std.proofs.lemmas.Bool.{leb-true, and_parts}
-use Rattle.safl_word.proofs.Booleans.{cond_cong}
 use Rattle.safl_circuit.proofs.Same.{Same}
 use Rattle.safl_circuit.specs.Equations.{Registers, Inputs, ret, many, path, on_wires, word_on, body_says, body_wants, want, wants_at, go}
 use Rattle.safl_circuit.specs.Equations.{go_words, goes_to, loop_from, loop_words, ends, taken_loop, starts, loads}
 use Rattle.safl_circuit.specs.Equations.{clears, starts_it, starts_other, next}
 use Rattle.safl_circuit.proofs.Searched.{end_in, loop_in, go_in, load_in, if_other}
-use Rattle.safl_calls.proofs.Basics.{first_cong}
 use Rattle.safl_calls.proofs.Locality.{answer_local, wanted_local}
-use Rattle.safl_calls.proofs.Numbered.{Numbered}
 use Rattle.safl_calls.specs.Picks.{first}
 use Rattle.safl_term.specs.Readiness.{NotYet, answer, wanted, word_of}
-use Rattle.safl_term.specs.Program.{Program, unit_for}
-use Rattle.safl_term.specs.Standing.{Stands}
 
 module _ (C : Program) (P : Choice) (good : Numbered C) (i : Inputs) (r q : Registers) (same : Same C P r q) where
   pub ret_same : (k : ℕ) → ret C r k ≡ ret C q k

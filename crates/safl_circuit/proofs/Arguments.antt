@@ -1,10 +1,9 @@
 -- The words on the argument registers are the arguments of the events.
+use Rattle.safl_circuit.proofs.Common.{Choice, Inv, LoopTo, Numbered, OneInUse, Program, ShownWordsServe, cond_same, loop_not_yet, none_of}
+use Rattle.safl_circuit.proofs.Common.{or_else, runs_idle, same_Some, unwrap_or}
 use Rattle.std.proofs.Common.{◌≡◌, ℕ, zero, suc, ◌<◌, ◌≤◌, List, [], ◌∷◌, ◌++◌, length, Option, Some, None, Bool, true, false, cond, ◌||◌, nat_lt}
-use Rattle.std.specs.Prelude.{unwrap_or}
-use Rattle.safl_sites.specs.Plan.{Choice}
 use Rattle.std.proofs.Common.{is_some, refl, sym, ap, ◌∙◌, subst, ⊎_elim, arith, append-nil, append_assoc, length-append}
 use Rattle.std.proofs.lemmas.Bool.{cases_eq, eq-eqb, ne_eqb, true≢false, lt-ltb, le-ltb, cases_lt}
-use Rattle.std.proofs.lemmas.Option.{same_Some}
 use Rattle.safl_circuit.proofs.Accepts.{Meets, Started, accepted_to, asked_same, go_asks, go_one, go_idle}
 use Rattle.safl_circuit.proofs.Claims.{ArgumentsSeen, OneStart}
 use Rattle.safl_circuit.proofs.Cycle.{steps, start_at, t, x, y, z, late, t_is, inv_t, meets, started, ended, moved, holds}
@@ -17,19 +16,10 @@ use Rattle.safl_circuit.specs.Equations.{goes_on, cycle_events, next, end_word, 
 use Rattle.safl_circuit.proofs.Searched.{load_in}
 use Rattle.safl_circuit.specs.Steps.{Quiet, StepsAt, input_at, registers_at, history}
 use Rattle.safl_calls.proofs.Basics.{first_some, first_only, first_skip, first_zero, all_none, not_some, some_of}
-use Rattle.safl_calls.proofs.Invariant.{Inv}
-use Rattle.safl_calls.proofs.Numbered.{Numbered}
 use Rattle.safl_calls.specs.Machine.{State, Event, Accept, Finish, Return, LoopInto, opening, after_event, fire, asked, says}
 use Rattle.safl_calls.specs.Picks.{first, picks}
 use Rattle.safl_calls.specs.Starts.{listed, goes_with, event_start, starts_of}
-use Rattle.safl_calls.specs.Interference.{OneInUse, ShownWordsServe}
-use Rattle.safl_term.specs.Readiness.{LoopTo, or_else}
-use Rattle.safl_term.specs.Program.{Program}
 use Rattle.safl_word.specs.Words.{Word, widths}
-use Rattle.safl_word.proofs.Options.{none_of}
-use Rattle.safl_word.proofs.Booleans.{cond_same}
-use Rattle.safl_term.proofs.Apart.{loop_not_yet}
-use Rattle.safl_calls.proofs.Apart.{runs_idle}
 
 pub starts_append : (C : Program) (args : List Word) (s : State) (xs ys : List Event) (f : ℕ)
     → starts_of C args s (xs ++ ys) f ≡ starts_of C args s xs f ++ starts_of C args (after_event C args s xs) ys f

@@ -1,17 +1,12 @@
 -- A unit that runs after the edge ran before, or one of its members starts.
+use Rattle.safl_circuit.proofs.Common.{Choice, Numbered, Program, Word, is_there, or-true, unit_for}
 use Rattle.std.proofs.Common.{◌≡◌, ℕ, zero, suc, ◌≤◌, List, Option, Some, None, Bool, true, false, cond, not, ◌&&◌, ◌||◌, ◌==◌}
 use Rattle.std.proofs.Common.{is_some, refl, sym, ap, ◌∙◌, inl, inr, ◌⊎◌, arith}
-use Rattle.std.proofs.Math.Bool.{or-true}
 use Rattle.std.proofs.lemmas.Bool.{cases_eq, eqb-true, eq-eqb, ne_eqb, and_from, and_parts, or_left, or_right, false≢true}
 use Rattle.safl_calls.proofs.Basics.{cond_some, first_none, first_some, some_none, some_of}
-use Rattle.safl_calls.proofs.Numbered.{Numbered}
 use Rattle.safl_calls.specs.Picks.{first}
 use Rattle.safl_circuit.proofs.Searched.{go_in, if_other, load_in, other_than}
 use Rattle.safl_circuit.specs.Equations.{Registers, Inputs, many, path, go, go_words, body_wants, loads, starts, starts_it, starts_other, next}
-use Rattle.safl_sites.specs.Plan.{Choice}
-use Rattle.safl_term.specs.Program.{Program, unit_for}
-use Rattle.safl_word.proofs.Options.{is_there}
-use Rattle.safl_word.specs.Words.{Word}
 
 -- a site has words to start with exactly if it starts
 pub go_wants : (C : Program) (P : Choice) (q : Registers) (i : Inputs) (k : ℕ) → is_some (go_words C P q i k) ≡ go C P q i k

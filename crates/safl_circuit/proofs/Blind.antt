@@ -1,26 +1,20 @@
 -- Two runs whose public arguments are equal have the same control.
+use Rattle.safl_circuit.proofs.Common.{Choice, IsWellFormed, Numbered, Program, Word, first_cong, numbered, some_none, unit_for}
 use Rattle.std.proofs.Common.{◌≡◌, ℕ, zero, suc, ◌<◌, List, Option, Some, None, Bool, true, false, cond, not, ◌&&◌, ◌||◌, ◌==◌, nat_le, is_some}
 use Rattle.std.proofs.Common.{refl, sym, ap, ◌∙◌, subst, inl, inr, ◌⊎◌, arith}
 use Rattle.std.specs.Option.{option_or}
 use Rattle.std.proofs.lemmas.Bool.{leb-true, eqb-true, and_parts, and_right, false≢true}
-use Rattle.safl_sites.specs.Plan.{Choice}
 use Rattle.safl_circuit.specs.Blind.{IsLabelling, SameControl, ControlIsBlind}
 use Rattle.safl_circuit.specs.Equations.{Registers, Inputs, ret, many, path, on_wires, word_on, body_says, body_wants, want, wants_at, go}
 use Rattle.safl_circuit.specs.Equations.{go_words, goes_to, loop_from, loop_words, end_word, ends, taken_loop, starts, loads, clears, starts_it, starts_other, next}
 use Rattle.safl_circuit.specs.Steps.{input_at, registers_at}
 use Rattle.safl_circuit.proofs.Awake.{either, not_cleared, Begins, awake, at_started, at_left, path_before}
 use Rattle.safl_circuit.proofs.Searched.{end_in, loop_in, go_in, load_in, if_other}
-use Rattle.safl_calls.proofs.Basics.{first_cong, some_none}
-use Rattle.safl_calls.proofs.FromWellFormed.{numbered}
 use Rattle.safl_calls.proofs.Labelled.{ListsAlike, WordsAlike, AnswersAlike, BacksAlike, lists_some, words_some, lists_or, lists_if, words_if, first_lists, first_words, lists_unwrap, words_unwrap}
 use Rattle.safl_calls.proofs.Labelled.{word_alike, answers_alike, wants_alike}
-use Rattle.safl_calls.proofs.Numbered.{Numbered}
 use Rattle.safl_calls.specs.Labels.{Labels, Alike}
 use Rattle.safl_calls.specs.Picks.{first}
-use Rattle.safl_term.specs.Program.{Program, unit_for}
 use Rattle.safl_term.specs.Readiness.{Answer, Ready, LoopTo, NotYet, answer, wanted}
-use Rattle.safl_term.specs.WellFormed.{IsWellFormed}
-use Rattle.safl_word.specs.Words.{Word}
 
 -- The two have the same control, and words that are equal where they are public and count: the arguments of a body that has its path,
 -- the result of a unit that has just finished or whose word a site has got, and the kept word of a site that has got it.

@@ -1,20 +1,13 @@
 -- The words on the argument registers are the argument lists of the evaluation.
+use Rattle.safl_circuit.proofs.Common.{Choice, IsPermutation, IsWellFormed, Main, OneInUse, Program, Returned, ShownWordsServe, cases_eq}
+use Rattle.safl_circuit.proofs.Common.{latest, main_calls, numbered, unit_for}
 use Rattle.std.proofs.Common.{◌≡◌, ℕ, zero, suc, ◌+◌, ◌-◌, ◌<◌, ◌≤◌, List, [], ◌∷◌, ◌++◌, Bool, true, cond, refl, sym, ap, ◌∙◌, subst, arith, ⊎_elim, append-nil, append_assoc}
-use Rattle.safl_sites.specs.Plan.{Choice}
-use Rattle.std.specs.List.Sorted.{IsPermutation}
-use Rattle.std.proofs.lemmas.Bool.{cases_eq}
 use Rattle.safl_word.specs.Words.{Word, widths}
-use Rattle.safl_term.specs.Program.{Program, unit_for}
-use Rattle.safl_term.specs.Readiness.{Returned}
-use Rattle.safl_term.specs.Meaning.{Main, main_calls}
-use Rattle.safl_term.specs.WellFormed.{IsWellFormed}
 use Rattle.safl_calls.specs.Machine.{State, Event, Return, Delivers, opening, give_back, Enabled, Legal, after_event, fire}
 use Rattle.safl_calls.specs.Picks.{picks}
 use Rattle.safl_calls.specs.Starts.{starts_of}
-use Rattle.safl_calls.proofs.FromWellFormed.{numbered}
 use Rattle.safl_calls.proofs.Basics.{after_append, legal_front, put_at}
 use Rattle.safl_calls.proofs.MachineLaws.{stops, same_calls}
-use Rattle.safl_calls.specs.Interference.{OneInUse, ShownWordsServe}
 use Rattle.safl_circuit.specs.Equations.{Registers, ret, accepts, finishes, goes_on, cycle_events}
 use Rattle.safl_circuit.specs.Steps.{Quiet, input_at, registers_at, history}
 use Rattle.safl_circuit.proofs.DoneOnce.{DoneOnce}
@@ -23,7 +16,6 @@ use Rattle.safl_circuit.proofs.Cycle.{steps}
 use Rattle.safl_circuit.proofs.Once.{in_time, after_done, stays}
 use Rattle.safl_circuit.proofs.Arguments.{arguments_seen, starts_append}
 use Rattle.safl_circuit.proofs.CoreOf.{core_of}
-use Rattle.safl_circuit.specs.Correct.{latest}
 
 picks_front : (p : ℕ → Bool) (e : ℕ → Event) (n : ℕ) → p 0 ≡ true → (rest : List Event) × (picks p e (suc n) ≡ e 0 ∷ rest)
 unfolding picks

@@ -1,13 +1,9 @@
 -- What is proved of the circuit without names, where the plan serves it.
+use Rattle.safl_circuit.proofs.Common.{Choice, Numbered, OneInUse, Program, Registers, ShownWordsServe, ret}
 use Rattle.std.specs.Prelude.{◌≡◌, ℕ, suc, ◌<◌, ◌≤◌, List, length, true}
-use Rattle.safl_sites.specs.Plan.{Choice}
 use Rattle.safl_word.specs.Words.{Word, widths}
-use Rattle.safl_term.specs.Program.{Program}
 use Rattle.safl_calls.specs.Machine.{opening}
 use Rattle.safl_calls.specs.Starts.{starts_of}
-use Rattle.safl_calls.proofs.Numbered.{Numbered}
-use Rattle.safl_calls.specs.Interference.{OneInUse, ShownWordsServe}
-use Rattle.safl_circuit.specs.Equations.{Registers, ret}
 use Rattle.safl_circuit.specs.Steps.{Quiet, StepsAt, registers_at, history}
 use Rattle.safl_circuit.proofs.DoneOnce.{Core, DoneOnce, Exclusive}
 use Rattle.safl_circuit.proofs.WordsSeen.{words_seen}

@@ -1,14 +1,10 @@
 -- The machine's laws, as the circuit uses them.
+use Rattle.safl_circuit.proofs.Common.{IsWellFormed, Main, Program, latest, numbered}
 use Rattle.std.proofs.Common.{◌≡◌, List, arith}
 use Rattle.safl_word.specs.Words.{Word, widths}
-use Rattle.safl_term.specs.Program.{Program}
-use Rattle.safl_term.specs.Meaning.{Main}
-use Rattle.safl_term.specs.WellFormed.{IsWellFormed}
-use Rattle.safl_calls.proofs.FromWellFormed.{numbered}
 use Rattle.safl_calls.proofs.PictureLaws.{one_meaning}
 use Rattle.safl_calls.proofs.MachineLaws.{right, goes_on, few_moves}
 use Rattle.safl_circuit.proofs.DoneOnce.{Core}
-use Rattle.safl_circuit.specs.Correct.{latest}
 
 pub core_of : (C : Program) → IsWellFormed C → (args : List Word) → widths args ≡ C.params C.main → (v : Word) (d : Main C args v) → Core C args v (latest C args d)
 core_of C wf args sized v d = record {

@@ -1,9 +1,8 @@
 -- A cycle of the circuit is a list of events of the machine.
+use Rattle.safl_circuit.proofs.Common.{Choice, Numbered, OneInUse, Program, Returned, Sent, ShownWordsServe, Stage, Unsent, idle_delivers}
+use Rattle.safl_circuit.proofs.Common.{idle_runs, or-false, or-true, unit_for, unwrap_or}
 use Rattle.std.proofs.Common.{◌≡◌, ℕ, zero, suc, ◌+◌, ◌<◌, List, [], ◌∷◌, ◌++◌, Bool, true, false, cond, ◌||◌, refl, sym, ap, ◌∙◌, subst, ⊎_elim, arith}
-use Rattle.std.specs.Prelude.{unwrap_or}
-use Rattle.safl_sites.specs.Plan.{Choice}
 use Rattle.std.proofs.lemmas.Bool.{and_parts, false≢true}
-use Rattle.std.proofs.Math.Bool.{or-false, or-true}
 use Rattle.safl_circuit.proofs.Accepts.{Meets, Started, accepted, go_one, go_idle}
 use Rattle.safl_circuit.proofs.Claims.{Steps}
 use Rattle.safl_circuit.proofs.Edge.{edge_run, edge_fin, edge_res, edge_at, edge_arg, edge_sent, edge_got, edge_keep}
@@ -17,17 +16,12 @@ use Rattle.safl_circuit.proofs.Searched.{end_in}
 use Rattle.safl_circuit.specs.Steps.{Shows, Quiet, is_running, is_delivering, was_sent, is_returned, input_at, registers_at, history}
 use Rattle.safl_calls.proofs.Basics.{moves_append, after_append, legal_append, last_append, mask_all}
 use Rattle.safl_calls.proofs.Invariant.{Inv, inv_after, unsent_at_rest}
-use Rattle.safl_calls.proofs.Numbered.{Numbered}
 use Rattle.safl_calls.specs.Machine.{State, Mode, Idle, Runs, Delivers, Event, Accept, LoopInto, opening, Enabled, Legal, after_event, last_word, finished}
 use Rattle.safl_calls.proofs.Basics.{serves}
 use Rattle.safl_calls.specs.Picks.{picks, first}
 use Rattle.safl_calls.specs.Moves.{moves_count}
-use Rattle.safl_calls.specs.Interference.{OneInUse, ShownWordsServe}
-use Rattle.safl_term.specs.Readiness.{Stage, Unsent, Sent, Returned}
-use Rattle.safl_term.specs.Program.{Program, unit_for}
 use Rattle.safl_word.specs.Words.{Word, no_word, widths}
 use Rattle.safl_term.proofs.Apart.{sent_unsent, unsent_returned}
-use Rattle.safl_calls.proofs.Apart.{idle_delivers, idle_runs}
 
 quiet_runs : (m : Mode) (f k : ℕ) (ws : List Word) → quiet m ≡ Runs f k ws → m ≡ Runs f k ws
 quiet_runs Idle f k ws e = e

@@ -1,13 +1,10 @@
 -- done comes once, in time, with main's value.
+use Rattle.safl_circuit.proofs.Common.{Choice, Program, Returned, Word, unit_for}
 use Rattle.std.specs.Prelude.{◌≡◌, ◌≢◌, ℕ, ◌<◌, ◌≤◌, List, true, false}
-use Rattle.safl_sites.specs.Plan.{Choice}
 use Rattle.safl_circuit.specs.Equations.{Registers, ret, go}
 use Rattle.safl_circuit.specs.Steps.{registers_at, input_at}
 use Rattle.safl_calls.specs.Machine.{Event, opening, Enabled, Legal, after_event}
 use Rattle.safl_calls.specs.Moves.{moves_count}
-use Rattle.safl_term.specs.Readiness.{Returned}
-use Rattle.safl_term.specs.Program.{Program, unit_for}
-use Rattle.safl_word.specs.Words.{Word}
 
 -- what the core gives where main has the value v: n is twice the calls less the loops
 pub record Core (C : Program) (args : List Word) (v : Word) (n : ℕ) : Type 0 where

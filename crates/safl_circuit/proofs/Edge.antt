@@ -1,26 +1,17 @@
 -- The registers after the edge show the state after the cycle.
+use Rattle.safl_circuit.proofs.Common.{Choice, Inv, Numbered, Program, Returned, Sent, Stage, Unsent, Word, is_delivering, is_returned}
+use Rattle.safl_circuit.proofs.Common.{is_running, is_there, no_word, or-false, or-true, or_else, same_Some, unit_for, unwrap_or, was_sent}
 use Rattle.std.proofs.Common.{◌≡◌, ℕ, zero, suc, ◌<◌, ◌≤◌, List, [], Some, None, Bool, true, false, cond, ◌||◌, ◌==◌, is_some, refl, sym, ap, ◌∙◌, ⊎_elim, arith}
-use Rattle.std.specs.Prelude.{unwrap_or}
-use Rattle.safl_sites.specs.Plan.{Choice}
 use Rattle.std.proofs.lemmas.Bool.{cases_eq, eqb-true, eqb-false, eq-eqb, ne_eqb, and_parts, true≢false, not-true}
-use Rattle.std.proofs.lemmas.Option.{same_Some}
-use Rattle.std.proofs.Math.Bool.{or-false, or-true}
 use Rattle.safl_circuit.proofs.Accepts.{Meets, Started, asked_parts, go_within, go_one, go_asks}
 use Rattle.safl_circuit.proofs.Ends.{Ended, Moved, loops_at}
 use Rattle.safl_circuit.proofs.Fate.{Holds, Fate, Stays, Starts, EndsWith, LoopsTo, fate}
 use Rattle.safl_circuit.specs.Equations.{Registers, Inputs, many, loop_words, go, go_words, loads}
 use Rattle.safl_circuit.specs.Equations.{ends, taken_loop, starts, clears, starts_it, starts_other, next}
 use Rattle.safl_circuit.proofs.Searched.{end_in, loop_in, go_in, load_in, if_other}
-use Rattle.safl_circuit.specs.Steps.{is_running, is_delivering, was_sent, is_returned}
 use Rattle.safl_calls.proofs.Basics.{first_none, first_only, all_none, some_none, cond_some, not_some, mask_all}
-use Rattle.safl_calls.proofs.Invariant.{Inv}
-use Rattle.safl_calls.proofs.Numbered.{Numbered}
 use Rattle.safl_calls.specs.Machine.{State, Mode, Idle, Runs, Delivers}
 use Rattle.safl_calls.specs.Picks.{first}
-use Rattle.safl_term.specs.Readiness.{or_else, Stage, Unsent, Sent, Returned}
-use Rattle.safl_term.specs.Program.{Program, unit_for}
-use Rattle.safl_word.specs.Words.{Word, no_word}
-use Rattle.safl_word.proofs.Options.{is_there}
 use Rattle.safl_term.proofs.Apart.{sent_returned, unsent_returned}
 use Rattle.safl_calls.proofs.Apart.{delivers_runs, runs_delivers}
 

@@ -1,30 +1,19 @@
 -- The Finishes and the Loops of a cycle.
+use Rattle.safl_circuit.proofs.Common.{Choice, Inv, Numbered, Program, Stands, Word, cond_same, fun_ext, loop_not_yet, none_of}
+use Rattle.safl_circuit.proofs.Common.{ready_not_yet, runs_idle, same_Some, unwrap_or}
 use Rattle.std.proofs.Common.{◌≡◌, ℕ, zero, suc, ◌<◌, ◌≤◌, List, [], ◌∷◌, ◌++◌, Option, Some, None, Bool, true, false, cond, ◌&&◌, ◌==◌, is_some}
-use Rattle.std.specs.Prelude.{unwrap_or}
-use Rattle.safl_sites.specs.Plan.{Choice}
 use Rattle.std.proofs.Common.{refl, sym, ap, ◌∙◌, subst, inl, inr, ⊎_elim, ◌⊎◌, arith}
-use Rattle.std.proofs.Math.Path.{fun_ext}
 use Rattle.std.proofs.lemmas.Bool.{cases_Bool, cases_eq, eqb-true, eq-eqb, ne_eqb, and_parts, true≢false}
-use Rattle.std.proofs.lemmas.Option.{same_Some}
 use Rattle.safl_circuit.proofs.Accepts.{Meets, Started, begun, not_started, back_same}
 use Rattle.safl_circuit.proofs.Middle.{member_says}
 use Rattle.safl_circuit.specs.Equations.{Registers, Inputs, body_says, end_word, goes_to, loop_words, finishes, goes_on}
 use Rattle.safl_circuit.proofs.Searched.{end_in, loop_in}
 use Rattle.safl_calls.proofs.Basics.{put_at, put_off, sweep, last_append, first_some, first_only, first_skip, first_zero, all_none, some_none, some_of, cond_some, not_some}
-use Rattle.safl_calls.proofs.Invariant.{Inv}
 use Rattle.safl_calls.proofs.Locality.{answer_local}
-use Rattle.safl_calls.proofs.Numbered.{Numbered}
 use Rattle.safl_calls.specs.Machine.{State, Mode, Idle, Runs, Delivers, Finish, LoopInto, Enabled, Legal, after_event, fire, finish, loop_into, ended, put, back, says, says_as, last_word, finished_as}
 use Rattle.safl_calls.specs.Picks.{first, picks}
 use Rattle.safl_term.specs.Readiness.{Answer, Ready, LoopTo, NotYet, answer, word_of, Unsent, back_word}
-use Rattle.safl_term.specs.Program.{Program}
-use Rattle.safl_term.specs.Standing.{Stands}
-use Rattle.safl_word.specs.Words.{Word}
-use Rattle.safl_word.proofs.Options.{none_of}
-use Rattle.safl_word.proofs.Booleans.{cond_same}
-use Rattle.safl_term.proofs.Apart.{loop_not_yet, ready_not_yet}
 use Rattle.safl_term.proofs.Widths.{ready_loop}
-use Rattle.safl_calls.proofs.Apart.{runs_idle}
 
 pub ready_of : (a : Answer) (v : Word) → word_of a ≡ Some v → a ≡ Ready v
 ready_of (Ready w) v h = ap Ready (same_Some w v h)

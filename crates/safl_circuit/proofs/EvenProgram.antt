@@ -1,10 +1,9 @@
 -- A group of two members and main: the program is well formed, and its runs by computation.
+use Rattle.safl_circuit.proofs.Common.{Gave, Program, apply}
 use Rattle.std.proofs.Common.{◌≡◌, ℕ, zero, suc, ◌<◌, ◌≤◌, List, [], ◌∷◌, true, false, cond, ◌==◌, refl, arith}
 use Rattle.safl_word.specs.Words.{Word, IsWord}
 use Rattle.safl_word.specs.declared.primitive.Primitive.TheVariants.{Add, Eq}
 use Rattle.safl_term.specs.Terms.{Term, Const, Var, Op, If, Call, Loop, Nil, Cons}
-use Rattle.safl_term.specs.Program.{Program}
-use Rattle.safl_term.specs.Fuel.{Gave, apply}
 use Rattle.safl_term.specs.Readiness.{answer, wanted}
 use Rattle.safl_term.specs.WellFormed.{Spans, HasWidth, IsWellFormed}
 use Rattle.safl_calls.specs.Picks.{first}

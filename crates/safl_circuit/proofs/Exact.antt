@@ -1,28 +1,20 @@
 -- Where no two calls can overlap, done comes in the last cycle in which it may.
+use Rattle.safl_circuit.proofs.Common.{Choice, IsSequential, IsWellFormed, Main, Numbered, OneInUse, Program, ShownWordsServe, cases_eq}
+use Rattle.safl_circuit.proofs.Common.{false≢true, latest, numbered, unit_for}
 use Rattle.std.proofs.Common.{◌≡◌, ℕ, zero, suc, ◌≤◌, List, ◌++◌, true, sym, ap, ◌∙◌, ⊎_elim, arith}
-use Rattle.safl_sites.specs.Plan.{Choice}
-use Rattle.std.proofs.lemmas.Bool.{cases_eq, false≢true}
 use Rattle.safl_circuit.proofs.CallsSeen.{done_events}
 use Rattle.safl_circuit.proofs.CoreOf.{core_of}
 use Rattle.safl_circuit.proofs.Cycle.{steps, start_at, legal_all, inv_t, meets}
 use Rattle.safl_circuit.proofs.DoneOnce.{DoneOnce}
 use Rattle.safl_circuit.proofs.Once.{in_time, after_done}
 use Rattle.safl_circuit.proofs.OneMove.{one_move}
-use Rattle.safl_circuit.specs.Correct.{latest}
 use Rattle.safl_circuit.specs.Equations.{Registers, ret, returns, cycle_events}
 use Rattle.safl_circuit.specs.Steps.{Quiet, StepsAt, input_at, registers_at, history}
 use Rattle.safl_calls.proofs.Basics.{moves_append}
-use Rattle.safl_calls.proofs.FromWellFormed.{numbered}
 use Rattle.safl_calls.proofs.MachineLaws.{all_moves}
-use Rattle.safl_calls.proofs.Numbered.{Numbered}
 use Rattle.safl_calls.proofs.Sequential.{one_event}
-use Rattle.safl_calls.specs.Interference.{OneInUse, ShownWordsServe}
-use Rattle.safl_sites.specs.Conflicts.{IsSequential}
 use Rattle.safl_calls.specs.Machine.{opening, after_event}
 use Rattle.safl_calls.specs.Moves.{moves_count}
-use Rattle.safl_term.specs.Meaning.{Main}
-use Rattle.safl_term.specs.Program.{Program, unit_for}
-use Rattle.safl_term.specs.WellFormed.{IsWellFormed}
 use Rattle.safl_word.specs.Words.{Word, widths}
 
 module _ (C : Program) (P : Choice) (wf : IsWellFormed C) (seq : IsSequential C) (h1 : OneInUse C P.arbiter) (h2 : ShownWordsServe C P.kept)

@@ -1,21 +1,14 @@
 -- What becomes of each unit in a cycle.
+use Rattle.safl_circuit.proofs.Common.{Choice, Inv, LoopTo, Numbered, Program, Ready, Returned, Word, is_returned, is_running, loop_not_yet}
+use Rattle.safl_circuit.proofs.Common.{ready_not_yet, unit_for, unwrap_or, was_sent}
 use Rattle.std.proofs.Common.{◌≡◌, ℕ, suc, ◌<◌, ◌≤◌, List, [], Option, Some, None, true, cond, ◌||◌, ◌==◌, is_some, refl, sym, ap, ◌∙◌, arith}
-use Rattle.std.specs.Prelude.{unwrap_or}
-use Rattle.safl_sites.specs.Plan.{Choice}
 use Rattle.safl_circuit.proofs.Accepts.{Meets, Started, begun, not_started, go_found}
 use Rattle.safl_circuit.proofs.Ends.{Ended, done_as, Moved, moved_as, running, end_found, loop_found, loop_in_found, no_end, Running}
 use Rattle.safl_circuit.specs.Equations.{Registers, Inputs, ret, many, body_says, loop_words, go, go_words}
 use Rattle.safl_circuit.proofs.Searched.{end_in, loop_in, go_in}
-use Rattle.safl_circuit.specs.Steps.{is_running, was_sent, is_returned}
 use Rattle.safl_calls.proofs.Basics.{first_some, some_none, some_of, not_some}
-use Rattle.safl_calls.proofs.Invariant.{Inv}
-use Rattle.safl_calls.proofs.Numbered.{Numbered}
 use Rattle.safl_calls.specs.Machine.{State, Idle, Runs, Delivers}
 use Rattle.safl_calls.specs.Picks.{first}
-use Rattle.safl_term.specs.Readiness.{Ready, LoopTo, Returned}
-use Rattle.safl_term.specs.Program.{Program, unit_for}
-use Rattle.safl_word.specs.Words.{Word}
-use Rattle.safl_term.proofs.Apart.{loop_not_yet, ready_not_yet}
 
 -- what the registers hold of the state after the Returns
 pub record Holds (C : Program) (P : Choice) (r : Registers) (t : State) : Type 0 where

@@ -1,21 +1,12 @@
 -- The names of the layout are found as registers.
+use Rattle.safl_circuit.proofs.Common.{All, Choice, Names, Numbered, Program, Scheme, bytes_eq-Decides, many, same_Some, some_none}
 use Rattle.std.proofs.Common.{◌≡◌, ℕ, zero, suc, ◌+◌, ◌<◌, ◌≤◌, List, [], ◌∷◌, ◌++◌, map, length, Option, Some, true, false, cond, refl, sym, ap, ◌∙◌, subst, inl, inr, ⊎_elim, ◌⊎◌, arith, bytes_eq}
-use Rattle.safl_term.specs.Names.{Names}
-use Rattle.safl_sites.specs.Plan.{Choice}
 use Rattle.std.specs.Prelude.{slice_get, codes}
-use Rattle.std.specs.List.{All}
 use Rattle.std.proofs.lemmas.List.Elements.{All-nil, All-cons}
-use Rattle.std.proofs.lemmas.Slice.Eq.{bytes_eq-Decides}
 use Rattle.std.proofs.lemmas.Bool.{and_parts, and_from, ltb-true, leb-true, eq-eqb, lt-ltb, false_from_ne_true}
-use Rattle.std.proofs.lemmas.Option.{same_Some}
-use Rattle.safl_term.specs.Program.{Program}
-use Rattle.safl_calls.proofs.Numbered.{Numbered}
-use Rattle.safl_calls.proofs.Basics.{some_none}
-use Rattle.safl_circuit.specs.Equations.{many}
 use Rattle.safl_net.specs.Netlist.{Netlist, Signal, Kind, Input, Reg, Wire, place}
 use Rattle.safl_circuit.specs.Names.{of_function, of_site, of_param, is_unit, is_site}
 use Rattle.safl_circuit.specs.Layout.{Line, lines, named, member_lines, unit_lines, site_lines, layout_registers, register_kind, each_line, IsLineOf}
-use Rattle.safl_circuit.specs.Scheme.{Scheme}
 
 -- the signal of the name is a register
 pub record IsRegister (n : Netlist) (name : List ℕ) : Type 0 where

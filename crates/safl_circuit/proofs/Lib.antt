@@ -1,3 +1,4 @@
+mod Common
 pub mod Searched
 pub mod DoneOnce
 pub mod WordsSeen

@@ -1,24 +1,17 @@
 -- After the Returns of a cycle the wires say what the machine's bodies say.
+use Rattle.safl_circuit.proofs.Common.{Choice, Inv, Numbered, Program, Word, cond_cong, fun_ext, none_of, unit_for}
 use Rattle.std.proofs.Common.{◌≡◌, ℕ, zero, suc, ◌<◌, List, [], ◌∷◌, ◌++◌, Option, Some, None, Bool, true, false, cond, not, ◌&&◌, ◌||◌, ◌==◌, nat_lt, nat_le, refl, sym, ap, ◌∙◌, ⊎_elim, arith}
-use Rattle.safl_sites.specs.Plan.{Choice}
-use Rattle.std.proofs.Math.Path.{fun_ext}
 use Rattle.std.proofs.lemmas.Bool.{cases_eq, eqb-true, eq-eqb, ne_eqb, lt-ltb, leb-true, and_parts, and_right}
 use Rattle.safl_circuit.proofs.Start.{home, Back, ret_delivers}
 use Rattle.safl_circuit.specs.Equations.{Registers, ret, returns, many, path, on_wires, body_says, body_wants}
 use Rattle.safl_circuit.proofs.Searched.{other_than}
 use Rattle.safl_circuit.specs.Steps.{Shows, was_sent, is_returned}
 use Rattle.safl_calls.proofs.Basics.{last_append, first_none, some_none, unsent_is}
-use Rattle.safl_calls.proofs.Invariant.{Inv}
-use Rattle.safl_calls.proofs.Numbered.{Numbered}
 use Rattle.safl_calls.specs.Machine.{State, Mode, Idle, Runs, Delivers, Event, Return, opening, Legal, after_event, back, asked, asked_as, last_word, is_unsent}
 use Rattle.safl_calls.proofs.Basics.{serves}
 use Rattle.safl_calls.specs.Picks.{picks}
 use Rattle.safl_calls.specs.Interference.{shown_words, shown_as, ShownWordsServe}
 use Rattle.safl_term.specs.Readiness.{Answer, NotYet, answer, wanted, Stage, Unsent, Sent, Returned}
-use Rattle.safl_term.specs.Program.{Program, unit_for}
-use Rattle.safl_word.specs.Words.{Word}
-use Rattle.safl_word.proofs.Booleans.{cond_cong}
-use Rattle.safl_word.proofs.Options.{none_of}
 
 -- a mode after all returns
 abbrev pub quiet : Mode → Mode

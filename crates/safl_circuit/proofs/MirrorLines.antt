@@ -1,14 +1,11 @@
 -- The lines of a net, and those of the layout.
+use Rattle.safl_circuit.proofs.Common.{Choice, Names, Program, flat_map, unit_for}
 use Rattle.std.proofs.Common.{◌≡◌, ℕ, zero, suc, List, [], ◌∷◌, ◌++◌, map, length, take, Some, Bool, true, false, cond, nat_lt, slice_get, refl, sym, ap, ◌∙◌, arith, append_assoc}
 use Rattle.std.proofs.lemmas.List.{append-nil, take_at}
-use Rattle.std.specs.List.{flat_map}
 use Rattle.std.proofs.lemmas.Grind.{flat_map-append}
-use Rattle.safl_term.specs.Program.{Program, unit_for}
 use Rattle.safl_net.specs.Netlist.{Netlist, Signal, Kind, Input, Reg, Wire}
 use Rattle.safl_net.specs.Names.{is_temp, temp_name, one_wire, wires, IsTidy}
 use Rattle.safl_net.specs.Arranged.{IsInput, IsRegister, Each}
-use Rattle.safl_sites.specs.Plan.{Choice}
-use Rattle.safl_term.specs.Names.{Names}
 use Rattle.safl_circuit.specs.Layout.{Line, lines, function_wires, site_wires, layout_wires, input_kind, register_kind, wire_kind, each_line, temporaries}
 use Rattle.safl_net.specs.Mirrors.{input_line, register_line, wire_line, IsNamed, IsTemp, IsLaidOut}
 use Rattle.safl_net.proofs.Growth.{wires_append}

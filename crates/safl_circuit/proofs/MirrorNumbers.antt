@@ -1,12 +1,7 @@
 -- Registers and inputs of cycles that show the same.
+use Rattle.safl_circuit.proofs.Common.{Names, Program, codes, flat_map, fun_ext, is_temp}
 use Rattle.std.proofs.Common.{◌≡◌, ℕ, suc, List, [], ◌∷◌, ◌++◌, map, length, Bool, true, false, cond, slice_get, slice_index, Some, refl, sym, ap, ◌∙◌, arith, inl, inr, ◌⊎◌}
-use Rattle.safl_term.specs.Names.{Names}
-use Rattle.std.specs.Prelude.{codes}
-use Rattle.std.proofs.Math.Path.{fun_ext}
-use Rattle.std.specs.List.{flat_map}
-use Rattle.safl_term.specs.Program.{Program}
 use Rattle.safl_net.specs.Netlist.{Netlist, Signal, Kind, Input, Reg, Wire}
-use Rattle.safl_net.specs.Names.{is_temp}
 use Rattle.safl_net.specs.Runs.{is_argument, input_numbers, start_number}
 use Rattle.safl_net.specs.Valuations.{Valuation, Fits, read, read_next}
 use Rattle.safl_net.proofs.Reading.{read_word}

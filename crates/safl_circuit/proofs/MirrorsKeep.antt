@@ -1,15 +1,10 @@
 -- Schemes and plans carry over.
+use Rattle.safl_circuit.proofs.Common.{Choice, Names, Program, bytes_eq-Decides, codes, is_temp}
 use Rattle.std.proofs.Common.{◌≡◌, ℕ, suc, ◌+◌, List, [], ◌∷◌, ◌++◌, map, length, Option, Some, None, Bool, true, false, cond, bytes_eq, slice_get, refl, sym, ap, subst, ◌∙◌, arith, append_assoc}
-use Rattle.safl_term.specs.Names.{Names}
-use Rattle.safl_sites.specs.Plan.{Choice}
 use Rattle.std.proofs.lemmas.List.{append-nil}
-use Rattle.std.proofs.lemmas.Slice.Eq.{bytes_eq-Decides}
-use Rattle.std.specs.Prelude.{codes}
-use Rattle.safl_term.specs.Program.{Program}
 use Rattle.safl_net.specs.declared.cell.Op.{Op}
 use Rattle.safl_net.specs.declared.cell.Op.TheVariants.{Copy}
 use Rattle.safl_net.specs.Netlist.{Netlist, Signal, Kind, Input, Reg, Wire, Cell, place}
-use Rattle.safl_net.specs.Names.{is_temp}
 use Rattle.safl_net.specs.Making.{kind_in, name_in, name_at}
 use Rattle.safl_net.specs.Valuations.{Valuation, Fits, reset_number, reset_state, kind_reset}
 use Rattle.safl_net.proofs.Reading.{place_of}

@@ -1,39 +1,28 @@
 -- In a run of the netlist the named registers are those of the circuit, and the ports do what they should.
+use Rattle.safl_circuit.proofs.Common.{AreWordsOf, Choice, IsPermutation, IsSequential, IsWellFormed, Names, Netlist, Numbered, OneInUse}
+use Rattle.safl_circuit.proofs.Common.{Program, Returned, Scheme, ShownWordsServe, are_widths, go_up, main_span, numbered, unit_for}
 use Rattle.std.proofs.Common.{◌≡◌, ◌≢◌, ℕ, zero, suc, ◌*◌, ◌<◌, ◌≤◌, List, [], ◌∷◌, ◌++◌, length, Option, Some, None, Bool, true, false, cond}
-use Rattle.safl_term.specs.Names.{Names}
-use Rattle.safl_sites.specs.Plan.{Choice}
 use Rattle.std.proofs.Common.{◌&&◌, ◌||◌, ◌==◌, is_some, refl, sym, ap, ◌∙◌, subst, arith, get_or}
 use Rattle.std.specs.Prelude.{slice_get, codes}
-use Rattle.std.specs.List.Sorted.{IsPermutation}
 use Rattle.std.proofs.lemmas.Option.{slice_get-get_or, slice_get_within, same_Some}
 use Rattle.std.proofs.lemmas.Bool.{false≢true, true≢false, and_from, and_parts, lt-ltb, leb-true, eq-eqb}
 use Rattle.std.proofs.Math.Numerals.{suc-eq-add-one}
 use Rattle.safl_word.specs.Words.{Word, as_word, widths}
-use Rattle.safl_term.specs.Program.{Program, unit_for}
-use Rattle.safl_term.specs.Readiness.{Returned}
 use Rattle.safl_term.specs.Meaning.{Main, main_cost, main_calls}
-use Rattle.safl_term.specs.WellFormed.{IsWellFormed, AreWordsOf}
-use Rattle.safl_term.proofs.Values.{are_widths}
 use Rattle.safl_term.proofs.OrElse.{or_alike}
-use Rattle.safl_sites.specs.Conflicts.{IsSequential}
 use Rattle.safl_calls.specs.Machine.{opening, after_event}
 use Rattle.safl_calls.specs.Picks.{first}
-use Rattle.safl_calls.proofs.Numbered.{Numbered}
-use Rattle.safl_calls.proofs.FromWellFormed.{numbered}
 use Rattle.safl_calls.proofs.Basics.{some_none, some_of, cond_some}
 use Rattle.safl_calls.proofs.Invariant.{inv_open}
 use Rattle.safl_calls.proofs.MachineLaws.{right, started}
 use Rattle.safl_calls.proofs.Counts.{total, at_most}
-use Rattle.safl_calls.specs.Interference.{OneInUse, ShownWordsServe}
 use Rattle.safl_circuit.specs.Equations.{Registers, Inputs, ret, want, go, body_wants, go_words, loads, loop_words, starts_it, next}
 use Rattle.safl_circuit.proofs.Awake.{go_wants}
 use Rattle.safl_circuit.proofs.Searched.{load_in}
 use Rattle.safl_circuit.specs.Steps.{Quiet, input_at, registers_at, history}
-use Rattle.safl_net.specs.Netlist.{Netlist}
 use Rattle.safl_net.specs.Valuations.{Valuation, Fits, read, read_output, next_state}
 use Rattle.safl_net.specs.Runs.{RunFrom, GoesOn, start_number}
 use Rattle.safl_circuit.specs.Names.{of_function, of_site, one, bit, is_unit, as_words, numbers, registers_now, registers_in, input_now}
-use Rattle.safl_circuit.specs.Scheme.{Scheme, go_up}
 use Rattle.safl_circuit.proofs.WordsSeen.{words_seen}
 use Rattle.safl_circuit.proofs.DoneOnce.{DoneOnce, Exclusive}
 use Rattle.safl_circuit.specs.Correct.{DoneIn, IsResult, NoneWaits, Unshared, latest, is_started, go_at, seen_at, words_seen_in, IsQuietState}
@@ -49,7 +38,6 @@ use Rattle.safl_circuit.proofs.CallsSeen.{calls_seen}
 use Rattle.safl_circuit.proofs.Exact.{exactly}
 use Rattle.safl_circuit.proofs.Sooner.{no_sooner, on_time_exactly}
 use Rattle.safl_circuit.proofs.Uncalled.{unshared_exactly}
-use Rattle.safl_calls.specs.Span.{main_span}
 
 at_most_or : (a b : ℕ) → (b < a → ⊥) → a ≤ b
 at_most_or zero b h = omega arith

@@ -1,10 +1,8 @@
 -- The law at the names of a netlist.
+use Rattle.safl_circuit.proofs.Common.{All, AreWordsOf, Choice, Inv, IsWellFormed, Names, Numbered, OneInUse, Program, ShownWordsServe}
+use Rattle.safl_circuit.proofs.Common.{Unsent, are_widths, false≢true, idle_delivers, idle_runs, inv_after, numbered}
 use Rattle.std.proofs.Common.{◌≡◌, ℕ, zero, suc, ◌<◌, List, [], ◌∷◌, ◌++◌, map, Bool, true, false, cond, ◌&&◌, is_some, refl, sym, ap, ◌∙◌, subst, arith, Option, None, Some}
-use Rattle.safl_term.specs.Names.{Names}
-use Rattle.safl_sites.specs.Plan.{Choice}
 use Rattle.std.specs.Prelude.{slice_index, codes}
-use Rattle.std.specs.List.{All}
-use Rattle.std.proofs.lemmas.Bool.{false≢true}
 use Rattle.std.proofs.lemmas.List.Elements.{All-head, All-tail}
 use Rattle.safl_circuit.proofs.Cycle.{legal_next, shows_next, lasts_next}
 use Rattle.safl_circuit.proofs.Laid.{IsRegister, Laid, laid}
@@ -17,21 +15,12 @@ use Rattle.safl_net.specs.Valuations.{Valuation, Holds, Fits, read, reset_state,
 use Rattle.safl_net.specs.Runs.{start_number, Run, GoesOn}
 use Rattle.safl_circuit.specs.Scheme.{Wires, Scheme, ret_on, go_up, net_events}
 use Rattle.safl_circuit.specs.Steps.{Shows, Quiet}
-use Rattle.safl_calls.proofs.Invariant.{Inv, inv_after}
-use Rattle.safl_calls.proofs.Numbered.{Numbered}
 use Rattle.safl_calls.specs.Machine.{State, Event, Accept, Finish, Return, LoopInto, opening, Legal, after_event, last_word}
 use Rattle.safl_calls.specs.Picks.{picks}
-use Rattle.safl_calls.specs.Interference.{OneInUse, ShownWordsServe}
-use Rattle.safl_term.specs.Readiness.{Unsent}
-use Rattle.safl_term.specs.Program.{Program}
 use Rattle.safl_word.specs.Words.{Word, as_word, widths}
 use Rattle.safl_word.proofs.Booleans.{cond_cong, never_both}
 use Rattle.safl_circuit.proofs.Typed.{edge_same, as_numbers}
-use Rattle.safl_term.specs.WellFormed.{IsWellFormed, AreWordsOf}
-use Rattle.safl_term.proofs.Values.{are_widths}
 use Rattle.safl_term.proofs.Apart.{returned_unsent, unsent_returned}
-use Rattle.safl_calls.proofs.FromWellFormed.{numbered}
-use Rattle.safl_calls.proofs.Apart.{idle_delivers, idle_runs}
 use Rattle.std.specs.Option.{option_map_or}
 
 pub one_bit : (w : ℕ) (b : Bool) → w ≡ bit b → one w ≡ b

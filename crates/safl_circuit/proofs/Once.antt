@@ -1,6 +1,6 @@
 -- done comes once, in time.
+use Rattle.safl_circuit.proofs.Common.{Choice, Inv, Numbered, Program, Returned, Sent, Unsent, inv_after, unit_for}
 use Rattle.std.proofs.Common.{◌≡◌, ◌≢◌, ℕ, zero, suc, ◌+◌, ◌-◌, ◌<◌, ◌≤◌, List, ◌++◌, Bool, true, false, cond, not, refl, sym, ap, ◌∙◌, subst, ⊎_elim, arith}
-use Rattle.safl_sites.specs.Plan.{Choice}
 use Rattle.std.proofs.lemmas.Bool.{cases_order, and_parts, false≢true, false_from_ne_true}
 use Rattle.safl_circuit.proofs.Claims.{InTime, QuietAfter, NoTwoStarts}
 use Rattle.safl_circuit.proofs.Cycle.{steps, start_at, outer_next, legal_all, came, progress, one_start, start_rests}
@@ -11,14 +11,10 @@ use Rattle.safl_circuit.specs.Equations.{Registers, ret, go, returns, cycle_even
 use Rattle.safl_circuit.proofs.DoneOnce.{Core, DoneOnce, Exclusive}
 use Rattle.safl_circuit.specs.Steps.{StepsAt, Quiet, input_at, registers_at, history}
 use Rattle.safl_calls.proofs.Basics.{moves_append, cond_some, unsent_is}
-use Rattle.safl_calls.proofs.Invariant.{Inv, inv_after}
-use Rattle.safl_calls.proofs.Numbered.{Numbered}
 use Rattle.safl_calls.specs.Machine.{State, Event, Accept, opening, Enabled, after_event}
 use Rattle.safl_calls.proofs.Basics.{serves}
 use Rattle.safl_calls.specs.Moves.{moves_count}
 use Rattle.safl_calls.specs.Interference.{OneInUse, ShownWordsServe}
-use Rattle.safl_term.specs.Readiness.{Unsent, Sent, Returned}
-use Rattle.safl_term.specs.Program.{Program, unit_for}
 use Rattle.safl_word.specs.Words.{Word, widths}
 use Rattle.safl_term.proofs.Apart.{returned_sent, returned_unsent, sent_unsent, unsent_returned}
 

@@ -1,21 +1,15 @@
 -- Where at most one event is enabled after the Returns of a cycle, the cycle has at most one event besides them.
+use Rattle.safl_circuit.proofs.Common.{Choice, Inv, LoopTo, Numbered, Program, Ready, Word, loop_not_yet, ready_not_yet}
 use Rattle.std.proofs.Common.{◌≡◌, ℕ, zero, suc, ◌+◌, ◌<◌, ◌≤◌, List, [], ◌∷◌, ◌++◌, Bool, true, false, cond, is_some, refl, sym, ap, ◌∙◌, ⊎_elim, arith}
-use Rattle.safl_sites.specs.Plan.{Choice}
 use Rattle.std.proofs.lemmas.Bool.{cases_Bool, false_from_ne_true}
 use Rattle.safl_circuit.proofs.Accepts.{Meets, go_asks, go_idle}
 use Rattle.safl_circuit.proofs.Ends.{ready_of, running, loop_found}
 use Rattle.safl_circuit.proofs.Progress.{some_up}
 use Rattle.safl_circuit.specs.Equations.{Registers, Inputs, ret, go, returns, accepts, finishes, goes_on, cycle_events, end_word, loop_words}
 use Rattle.safl_calls.proofs.Basics.{moves_append, some_of}
-use Rattle.safl_calls.proofs.Invariant.{Inv}
-use Rattle.safl_calls.proofs.Numbered.{Numbered}
 use Rattle.safl_calls.specs.Machine.{State, Event, Accept, Finish, Return, LoopInto, Enabled, back, says_as}
 use Rattle.safl_calls.specs.Moves.{move_count, moves_count}
 use Rattle.safl_calls.specs.Picks.{picks}
-use Rattle.safl_term.specs.Program.{Program}
-use Rattle.safl_term.specs.Readiness.{Ready, LoopTo}
-use Rattle.safl_word.specs.Words.{Word}
-use Rattle.safl_term.proofs.Apart.{loop_not_yet, ready_not_yet}
 
 number : Event → ℕ
 number (Accept k) = k

@@ -1,22 +1,16 @@
 -- Where an event is enabled after the Returns of a cycle, the cycle has another event.
+use Rattle.safl_circuit.proofs.Common.{Choice, Inv, Numbered, Program, Word, is_delivering, is_running, is_there, unit_for}
 use Rattle.std.proofs.Common.{◌≡◌, ℕ, zero, suc, ◌<◌, ◌≤◌, List, [], ◌∷◌, ◌+◌, Option, Some, None, Bool, true, false, cond, not, ◌&&◌, is_some, refl, sym, ap, ◌∙◌, inl, inr, ⊎_elim, ◌⊎◌, arith}
-use Rattle.safl_sites.specs.Plan.{Choice}
 use Rattle.std.proofs.lemmas.Bool.{cases_Bool, cases_eq, eqb-true, eq-eqb, and_parts, and_from, true≢false}
 use Rattle.safl_circuit.proofs.Accepts.{Meets, asked_parts}
 use Rattle.safl_circuit.proofs.Middle.{member_says}
 use Rattle.safl_circuit.specs.Equations.{Registers, Inputs, accepts, finishes, goes_on, body_says, want, wants_at, go, end_word, loop_from, loop_words}
-use Rattle.safl_circuit.specs.Steps.{is_running, is_delivering}
 use Rattle.safl_calls.proofs.Basics.{moves_append, first_none, some_none, cond_some}
 use Rattle.safl_calls.proofs.Bodies.{goes_stands}
-use Rattle.safl_calls.proofs.Invariant.{Inv}
-use Rattle.safl_calls.proofs.Numbered.{Numbered}
 use Rattle.safl_calls.specs.Machine.{State, Mode, Idle, Runs, Delivers, Event, Accept, Finish, Return, LoopInto, Enabled, says_as, asked, back}
 use Rattle.safl_calls.specs.Picks.{picks, first}
 use Rattle.safl_calls.specs.Moves.{move_count, moves_count}
 use Rattle.safl_term.specs.Readiness.{Ready, LoopTo, NotYet, answer, word_of, or_else}
-use Rattle.safl_term.specs.Program.{Program, unit_for}
-use Rattle.safl_word.specs.Words.{Word}
-use Rattle.safl_word.proofs.Options.{is_there}
 
 -- where a number passes, and its event is no Return, there is a move
 picks_move : (p : ℕ → Bool) (e : ℕ → Event) → ((k : ℕ) → move_count (e k) ≡ 1) → (n k : ℕ) → k < n → p k ≡ true → 0 < moves_count (picks p e n)

@@ -1,6 +1,6 @@
 -- Where each wanted call is accepted, a unit that has not changed in a cycle could have done no more in it.
+use Rattle.safl_circuit.proofs.Common.{Choice, Inv, Numbered, Program, Stands, Word, is_delivering, is_there, sent_unsent}
 use Rattle.std.proofs.Common.{◌≡◌, ℕ, zero, suc, ◌<◌, ◌≤◌, List, Option, Some, None, Bool, true, false, cond, is_some, refl, sym, ap, ◌∙◌, arith}
-use Rattle.safl_sites.specs.Plan.{Choice}
 use Rattle.std.proofs.lemmas.Bool.{eq-eqb, and_from, le-leb, true≢false, eqb-true}
 use Rattle.std.proofs.Common.{nat_le}
 use Rattle.safl_circuit.proofs.Accepts.{Meets, Started}
@@ -10,25 +10,17 @@ use Rattle.safl_circuit.proofs.Fate.{Fate, Stays, Starts, EndsWith, LoopsTo, fat
 use Rattle.safl_circuit.proofs.Middle.{member_says}
 use Rattle.safl_circuit.proofs.Searched.{end_in, loop_in}
 use Rattle.safl_circuit.specs.Equations.{Registers, Inputs, body_says, want, go, loop_words, loop_from}
-use Rattle.safl_circuit.specs.Steps.{is_delivering}
 use Rattle.safl_calls.proofs.Activities.{Active}
 use Rattle.safl_calls.proofs.Basics.{first_none, first_some, some_none, cond_some, mask_all}
 use Rattle.safl_calls.proofs.Bodies.{goes_stands, wanted_stands}
-use Rattle.safl_calls.proofs.Invariant.{Inv}
 use Rattle.safl_calls.proofs.Locality.{wanted_local}
 use Rattle.safl_calls.proofs.MachineLaws.{as_runs, as_delivers}
-use Rattle.safl_calls.proofs.Numbered.{Numbered}
 use Rattle.safl_calls.proofs.Picture.{own, own_at, activity, picture, own_answer, own_wanted}
 use Rattle.safl_calls.proofs.Timely.{Prompt}
 use Rattle.safl_calls.specs.Machine.{State, Runs, Delivers, back, asked, asked_as, is_unsent}
 use Rattle.safl_calls.specs.Picks.{first}
 use Rattle.safl_term.proofs.Bridge.{back_of}
 use Rattle.safl_term.specs.Readiness.{Stage, Unsent, Sent, back_word, Answer, Ready, LoopTo, NotYet, answer, wanted, word_of}
-use Rattle.safl_term.specs.Standing.{Stands}
-use Rattle.safl_term.specs.Program.{Program}
-use Rattle.safl_word.specs.Words.{Word}
-use Rattle.safl_word.proofs.Options.{is_there}
-use Rattle.safl_term.proofs.Apart.{sent_unsent}
 use Rattle.safl_calls.proofs.Apart.{runs_delivers}
 
 module _ (C : Program) (P : Choice) (args : List Word) (good : Numbered C) (r : Registers) (i : Inputs) (t : State) (inv : Inv C t)

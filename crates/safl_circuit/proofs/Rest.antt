@@ -1,17 +1,10 @@
 -- After main has returned all units rest.
+use Rattle.safl_circuit.proofs.Common.{Choice, Inv, Numbered, Program, Registers, Returned, Sent, Stage, Unsent, Word, runs_idle}
 use Rattle.std.proofs.Common.{◌≡◌, ◌≢◌, ℕ, zero, suc, ◌+◌, ◌<◌, ◌≤◌, Some, refl, sym, ap, ◌∙◌, arith}
-use Rattle.safl_sites.specs.Plan.{Choice}
-use Rattle.safl_circuit.specs.Equations.{Registers}
 use Rattle.safl_circuit.specs.Steps.{Shows, Quiet, is_running, is_delivering, was_sent, is_returned}
-use Rattle.safl_calls.proofs.Invariant.{Inv}
-use Rattle.safl_calls.proofs.Numbered.{Numbered}
 use Rattle.safl_calls.specs.Machine.{State, Mode, Idle, Runs, Delivers}
 use Rattle.safl_calls.proofs.Basics.{serves}
-use Rattle.safl_term.specs.Readiness.{Stage, Unsent, Sent, Returned}
-use Rattle.safl_term.specs.Program.{Program}
-use Rattle.safl_word.specs.Words.{Word}
 use Rattle.safl_term.proofs.Apart.{returned_sent, sent_unsent}
-use Rattle.safl_calls.proofs.Apart.{runs_idle}
 
 unsent_or : (x : Stage) → (x ≢ Unsent → ⊥) → x ≡ Unsent
 unsent_or Unsent h = refl

@@ -1,9 +1,6 @@
 -- Runs by computation: the cycles in which main is done, and its word.
+use Rattle.safl_circuit.proofs.Common.{Choice, Program, Registers, Word, no_word, ret}
 use Rattle.std.proofs.Common.{ℕ, zero, suc, List, [], ◌∷◌, ◌++◌, Bool, false}
-use Rattle.safl_sites.specs.Plan.{Choice}
-use Rattle.safl_word.specs.Words.{Word, no_word}
-use Rattle.safl_term.specs.Program.{Program}
-use Rattle.safl_circuit.specs.Equations.{Registers, ret}
 use Rattle.safl_circuit.specs.Steps.{registers_at}
 
 abbrev pub quiet : Registers

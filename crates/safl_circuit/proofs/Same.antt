@@ -1,8 +1,6 @@
 -- Registers that are equal where they exist.
+use Rattle.safl_circuit.proofs.Common.{Choice, Program, Registers, many}
 use Rattle.std.specs.Prelude.{◌≡◌, ℕ, ◌<◌, ◌≤◌, true}
-use Rattle.safl_sites.specs.Plan.{Choice}
-use Rattle.safl_term.specs.Program.{Program}
-use Rattle.safl_circuit.specs.Equations.{Registers, many}
 
 pub record Same (C : Program) (P : Choice) (r q : Registers) : Type 0 where
   pub run : (u : ℕ) → r.run u ≡ q.run u

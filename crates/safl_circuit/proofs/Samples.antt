@@ -1,9 +1,7 @@
 -- Programs and choices of the sample runs.
+use Rattle.safl_circuit.proofs.Common.{Choice, Program, Word, no_word}
 use Rattle.std.specs.Prelude.{ℕ, zero, suc, [], false}
-use Rattle.safl_word.specs.Words.{Word, no_word}
 use Rattle.safl_term.specs.Terms.{Const}
-use Rattle.safl_term.specs.Program.{Program}
-use Rattle.safl_sites.specs.Plan.{Choice}
 
 -- what the first function has, and a default for all others
 abbrev pub first_or : {A : Type 0} → A → A → ℕ → A

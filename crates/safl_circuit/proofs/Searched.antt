@@ -1,9 +1,7 @@
 -- What the equations search among the functions and sites, by name.
+use Rattle.safl_circuit.proofs.Common.{Choice, Program, Word, unit_for}
 use Rattle.std.proofs.Common.{ℕ, List, Option, Some, None, cond, not, ◌==◌, ◌&&◌}
 use Rattle.std.specs.Prelude.{is_some}
-use Rattle.safl_word.specs.Words.{Word}
-use Rattle.safl_term.specs.Program.{Program, unit_for}
-use Rattle.safl_sites.specs.Plan.{Choice}
 use Rattle.safl_circuit.specs.Equations.{Registers, Inputs, end_word, loop_words, go, go_words, starts_it}
 
 -- the functions of f's unit other than f

@@ -1,6 +1,7 @@
 -- done comes in no cycle before that of the span of main's evaluation, and in no later one where no call waits.
+use Rattle.safl_circuit.proofs.Common.{Choice, Inv, IsWellFormed, Main, Numbered, OneInUse, Program, Sent, ShownWordsServe, idle_delivers}
+use Rattle.safl_circuit.proofs.Common.{inv_after, main_span, numbered, unit_for}
 use Rattle.std.proofs.Common.{◌≡◌, ℕ, zero, suc, ◌<◌, ◌≤◌, List, ◌++◌, true, sym, ap, ◌∙◌, subst, arith}
-use Rattle.safl_sites.specs.Plan.{Choice}
 use Rattle.safl_circuit.proofs.Acting.{may_all, since_low}
 use Rattle.safl_circuit.proofs.CallsSeen.{legal_back}
 use Rattle.safl_circuit.proofs.Cycle.{steps, start_at, legal_next, inv_t, meets, x, y, z, z_is, started, ended, moved}
@@ -10,22 +11,12 @@ use Rattle.safl_circuit.proofs.Start.{ret_delivers}
 use Rattle.safl_circuit.specs.Equations.{Registers, ret, want, go, returns, cycle_events}
 use Rattle.safl_circuit.specs.Steps.{Quiet, StepsAt, input_at, registers_at, history}
 use Rattle.safl_calls.proofs.Activities.{Giving}
-use Rattle.safl_calls.proofs.Apart.{idle_delivers}
 use Rattle.safl_calls.proofs.Basics.{after_append}
-use Rattle.safl_calls.proofs.FromWellFormed.{numbered}
-use Rattle.safl_calls.proofs.Invariant.{Inv, inv_after}
-use Rattle.safl_calls.proofs.Numbered.{Numbered}
 use Rattle.safl_calls.proofs.Picture.{activity, picture}
 use Rattle.safl_calls.proofs.Sooner.{OnTime, on_time_opening, on_time_after, on_time_later, on_time_returned}
 use Rattle.safl_calls.proofs.Timely.{Prompt, Lasts, Awaits}
 use Rattle.safl_calls.specs.Cycles.{since_events}
-use Rattle.safl_calls.specs.Interference.{OneInUse, ShownWordsServe}
 use Rattle.safl_calls.specs.Machine.{Delivers, opening, after_event}
-use Rattle.safl_calls.specs.Span.{main_span}
-use Rattle.safl_term.specs.Meaning.{Main}
-use Rattle.safl_term.specs.Program.{Program, unit_for}
-use Rattle.safl_term.specs.Readiness.{Sent}
-use Rattle.safl_term.specs.WellFormed.{IsWellFormed}
 use Rattle.safl_word.specs.Words.{Word, widths}
 
 module _ (C : Program) (P : Choice) (wf : IsWellFormed C) (h1 : OneInUse C P.arbiter) (h2 : ShownWordsServe C P.kept) (r0 : Registers) (quiet : Quiet r0)

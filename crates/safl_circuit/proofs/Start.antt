@@ -1,18 +1,12 @@
 -- The Returns of a cycle.
+use Rattle.safl_circuit.proofs.Common.{Choice, Inv, Numbered, Program, Returned, Sent, Stage, Unsent, Word, same_Some, unit_for}
 use Rattle.std.proofs.Common.{◌≡◌, ℕ, zero, suc, ◌<◌, List, true, false, cond, ◌&&◌, nat_lt, refl, sym, ap, ◌∙◌, subst, ⊎_elim, arith}
-use Rattle.safl_sites.specs.Plan.{Choice}
 use Rattle.std.proofs.lemmas.Bool.{cases_Bool, cases_eq, lt-ltb, le-ltb, ltb-true, ltb-false, and_parts, not-true, false≢true, true≢false, and_right}
-use Rattle.std.proofs.lemmas.Option.{same_Some}
 use Rattle.safl_circuit.specs.Equations.{Registers, ret, returns}
 use Rattle.safl_circuit.specs.Steps.{Shows, is_delivering, was_sent, is_returned}
 use Rattle.safl_calls.proofs.Basics.{put_at, put_off, sweep}
-use Rattle.safl_calls.proofs.Invariant.{Inv}
-use Rattle.safl_calls.proofs.Numbered.{Numbered}
 use Rattle.safl_calls.specs.Machine.{State, Mode, Idle, Runs, Delivers, Return, Enabled, Legal, after_event, fire, put}
 use Rattle.safl_calls.proofs.Basics.{serves}
-use Rattle.safl_term.specs.Readiness.{Stage, Unsent, Sent, Returned}
-use Rattle.safl_term.specs.Program.{Program, unit_for}
-use Rattle.safl_word.specs.Words.{Word}
 
 pub delivering : (m : Mode) → is_delivering m ≡ true → (k : ℕ) × (v : Word) × (m ≡ Delivers k v)
 delivering Idle h = absurd (false≢true h)

@@ -1,22 +1,13 @@
 -- The last theorem, from its parts.
+use Rattle.safl_circuit.proofs.Common.{AreWordsOf, Choice, IsWellFormed, Main, Names, Netlist, Numbered, OneInUse, Program, Scheme}
+use Rattle.safl_circuit.proofs.Common.{ShownWordsServe, Word, as_word, go_up, numbered, some_none, unit_for}
 use Rattle.std.proofs.Common.{◌≡◌, ◌≢◌, ℕ, ◌≤◌, List, [], ◌∷◌, length, Some, true, sym, subst, arith, inl, inr, cond, ap, refl, ◌++◌, ◌∙◌, suc, ◌<◌}
-use Rattle.safl_term.specs.Names.{Names}
 use Rattle.std.specs.Prelude.{slice_get, codes}
-use Rattle.safl_word.specs.Words.{Word, as_word}
-use Rattle.safl_term.specs.Program.{Program, unit_for}
-use Rattle.safl_term.specs.Meaning.{Main}
-use Rattle.safl_term.specs.WellFormed.{IsWellFormed, AreWordsOf}
-use Rattle.safl_calls.proofs.FromWellFormed.{numbered}
-use Rattle.safl_calls.proofs.Basics.{some_none}
-use Rattle.safl_calls.specs.Interference.{OneInUse, ShownWordsServe}
 use Rattle.safl_calls.proofs.Interference.{arbiter_serves}
 use Rattle.safl_calls.proofs.KeptWords.{kept_serves}
-use Rattle.safl_sites.specs.Plan.{Choice}
-use Rattle.safl_net.specs.Netlist.{Netlist}
 use Rattle.safl_net.specs.Valuations.{Valuation, read, read_output, reset_state}
 use Rattle.safl_net.specs.Runs.{RunFrom}
 use Rattle.safl_circuit.specs.Names.{of_function, numbers, of_site, bit, registers_in}
-use Rattle.safl_circuit.specs.Scheme.{Scheme, go_up}
 use Rattle.safl_circuit.specs.Correct.{DoneIn, IsExact, NoSooner, IsOnTime, IsSpan, IsResult, latest, QuietAfterDone, SameCalls, Behaves, IsQuietState}
 use Rattle.safl_circuit.specs.Blind.{DoneIsBlind}
 use Rattle.safl_circuit.proofs.Blind.{control_is_blind}
@@ -25,7 +16,6 @@ use Rattle.safl_circuit.proofs.Cycle as cycle
 use Rattle.safl_circuit.proofs.NetSteps.{first_run, first_quiet}
 use Rattle.safl_circuit.proofs.NetRuns as run
 use Rattle.std.proofs.lemmas.Bool.{lt-ltb}
-use Rattle.safl_calls.proofs.Numbered.{Numbered}
 use Rattle.safl_circuit.specs.Layout.{Line, IsLineOf, lines, each_line, register_kind, wire_kind, function_wires, site_wires, layout_wires}
 use Rattle.safl_circuit.proofs.Laid.{has_left, has_right, lines_has, in_unit, unit_is, unit_lt, units}
 

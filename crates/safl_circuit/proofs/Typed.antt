@@ -1,22 +1,14 @@
 -- The registers hold words of their widths, in every cycle.
+use Rattle.safl_circuit.proofs.Common.{Choice, Names, Numbered, Program, Stands, Word, as_word, bytes_eq-Decides, codes, numbered}
+use Rattle.safl_circuit.proofs.Common.{same_Some, unit_for, unwrap_or}
 use Rattle.std.proofs.Common.{◌≡◌, ℕ, zero, suc, ◌<◌, ◌≤◌, List, [], ◌∷◌, ◌++◌, map, length, Option, Some, None, Bool, true, false, cond, not, ◌&&◌, refl, sym, ap, ◌∙◌, subst, arith, bytes_eq}
-use Rattle.safl_term.specs.Names.{Names}
-use Rattle.safl_sites.specs.Plan.{Choice}
-use Rattle.std.specs.Prelude.{codes, unwrap_or}
-use Rattle.std.proofs.lemmas.Slice.Eq.{bytes_eq-Decides}
 use Rattle.std.proofs.lemmas.Bool.{eqb-true, false_from_ne_true}
-use Rattle.std.proofs.lemmas.Option.{same_Some}
 use Rattle.std.proofs.lemmas.List.{length-map}
-use Rattle.safl_word.specs.Words.{Word, as_word}
 use Rattle.safl_word.proofs.Widths.{widths}
 use Rattle.safl_word.proofs.Words.{word_eq}
-use Rattle.safl_term.specs.Program.{Program, unit_for}
 use Rattle.safl_term.specs.Readiness.{Answer, Ready, LoopTo, NotYet, word_of, or_else, answer}
-use Rattle.safl_term.specs.Standing.{Stands}
 use Rattle.safl_term.specs.WellFormed.{IsWellFormed, HasWidth, AreWordsOf}
 use Rattle.safl_term.proofs.Widths.{answer_width, loop_widths, wanted_widths}
-use Rattle.safl_calls.proofs.Numbered.{Numbered}
-use Rattle.safl_calls.proofs.FromWellFormed.{numbered}
 use Rattle.safl_calls.proofs.Basics.{first_some, cond_some, some_none}
 use Rattle.safl_circuit.specs.Equations.{Registers, Inputs, ret, word_on, on_wires, path, body_says, body_wants, go_words, loop_from}
 use Rattle.safl_circuit.specs.Equations.{loop_words, ends, loads, next}

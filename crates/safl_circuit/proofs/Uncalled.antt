@@ -1,9 +1,10 @@
 -- Where main's evaluation calls no function at a unit with an arbiter, no call waits.
+use Rattle.safl_circuit.proofs.Common.{Choice, Inv, IsWellFormed, Main, Numbered, OneInUse, Program, ShownWordsServe, is_there, main_calls}
+use Rattle.safl_circuit.proofs.Common.{main_span, numbered, unit_for}
 use Rattle.std.proofs.Common.{◌≡◌, ℕ, zero, suc, ◌<◌, ◌≤◌, List, [], ◌∷◌, ◌++◌, length, Some, None, Bool, true, false, cond, not, ◌&&◌, ◌||◌, is_some}
 use Rattle.std.proofs.Common.{refl, sym, ap, ◌∙◌, subst, ⊎_elim, arith}
 use Rattle.std.proofs.lemmas.Bool.{cases_eq, eq-eqb, and_parts, leb-true, true≢false, false≢true}
 use Rattle.std.proofs.lemmas.List.Sorted.{length_permutation}
-use Rattle.safl_sites.specs.Plan.{Choice}
 use Rattle.safl_circuit.proofs.Accepts.{Meets, idle_if, go_asks, go_off}
 use Rattle.safl_circuit.proofs.CallsSeen.{calls_seen}
 use Rattle.safl_circuit.proofs.CoreOf.{core_of}
@@ -18,18 +19,9 @@ use Rattle.safl_circuit.specs.Correct.{Unshared, latest}
 use Rattle.safl_circuit.specs.Equations.{Registers, ret, want, wants_at, body_wants, go, loads, starts_it, starts, ends, next, returns}
 use Rattle.safl_circuit.specs.Steps.{Quiet, StepsAt, input_at, registers_at, history}
 use Rattle.safl_calls.proofs.Basics.{all_none, cond_some, first_none, some_none, some_of}
-use Rattle.safl_calls.proofs.FromWellFormed.{numbered}
-use Rattle.safl_calls.proofs.Invariant.{Inv}
-use Rattle.safl_calls.proofs.Numbered.{Numbered}
-use Rattle.safl_calls.specs.Interference.{OneInUse, ShownWordsServe}
 use Rattle.safl_calls.specs.Machine.{State, opening, after_event, asked}
 use Rattle.safl_calls.specs.Picks.{first}
-use Rattle.safl_calls.specs.Span.{main_span}
-use Rattle.safl_term.specs.Meaning.{Main, main_calls}
-use Rattle.safl_term.specs.Program.{Program, unit_for}
-use Rattle.safl_term.specs.WellFormed.{IsWellFormed}
 use Rattle.safl_word.specs.Words.{Word, widths}
-use Rattle.safl_word.proofs.Options.{is_there}
 
 left_nil : {A : Type 0} (xs ys : List A) → xs ++ ys ≡ [] → xs ≡ []
 left_nil [] ys e = refl

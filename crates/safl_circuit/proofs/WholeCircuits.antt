@@ -1,15 +1,11 @@
 -- A netlist with the scheme of a program is whole: its ports stand first in the layout.
+use Rattle.safl_circuit.proofs.Common.{Choice, Names, Program, Scheme, bytes_eq-Decides}
 use Rattle.std.proofs.Common.{◌≡◌, ℕ, suc, ◌+◌, List, [], ◌∷◌, map, cond, Bool, true, false, Option, Some, refl, sym, ap, subst, ◌∙◌, inl, inr, ⊎_elim, arith, bytes_eq}
 use Rattle.std.specs.Prelude.{slice_get, codes, is_some, IsSome}
-use Rattle.std.proofs.lemmas.Slice.Eq.{bytes_eq-Decides}
-use Rattle.safl_term.specs.Names.{Names}
-use Rattle.safl_term.specs.Program.{Program}
-use Rattle.safl_sites.specs.Plan.{Choice}
 use Rattle.safl_net.specs.Netlist.{Netlist, Signal, Kind, Input, Reg, Wire, width_in, output_place}
 use Rattle.safl_net.specs.Making.{kind_in}
 use Rattle.safl_net.specs.Whole.{HasStart}
 use Rattle.safl_circuit.specs.Layout.{Line, input_kind, each_line, IsLineOf}
-use Rattle.safl_circuit.specs.Scheme.{Scheme}
 use Rattle.safl_circuit.specs.Theorem.{SchemesAreWhole}
 use Rattle.safl_circuit.proofs.Laid.{has_side, placed}
 

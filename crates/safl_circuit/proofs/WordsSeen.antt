@@ -1,10 +1,8 @@
 -- The arguments with which functions start.
+use Rattle.safl_circuit.proofs.Common.{Choice, Program, Word}
 use Rattle.std.specs.Prelude.{ℕ, zero, suc, List, [], ◌∷◌, ◌++◌, cond}
-use Rattle.safl_sites.specs.Plan.{Choice}
 use Rattle.safl_circuit.specs.Equations.{Registers, starts_it}
 use Rattle.safl_circuit.specs.Steps.{registers_at, input_at}
-use Rattle.safl_term.specs.Program.{Program}
-use Rattle.safl_word.specs.Words.{Word}
 
 -- the words on f's argument registers after each cycle before c in which f is started
 unfoldable pub words_seen : Program → Choice → Registers → List Word → (ℕ → List Word) → ℕ → ℕ → List (List Word)

@@ -1,10 +1,8 @@
 -- Whole runs by computation.
+use Rattle.safl_circuit.proofs.Common.{Choice, Gave, Program, apply}
 use Rattle.std.proofs.Common.{◌≡◌, ℕ, zero, suc, [], ◌∷◌, true, false, cond, ◌==◌, refl}
-use Rattle.safl_sites.specs.Plan.{Choice}
 use Rattle.safl_word.specs.declared.primitive.Primitive.TheVariants.{And}
 use Rattle.safl_term.specs.Terms.{Term, Const, Var, Op, If, Call, Loop, Nil, Cons}
-use Rattle.safl_term.specs.Program.{Program}
-use Rattle.safl_term.specs.Fuel.{Gave, apply}
 use Rattle.safl_term.specs.Readiness.{answer, wanted}
 use Rattle.safl_calls.specs.Picks.{first}
 use Rattle.safl_circuit.specs.Equations.{go, body_says, body_wants, ends, taken_loop, starts, loads, next}

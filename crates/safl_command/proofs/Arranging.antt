@@ -1,13 +1,10 @@
 -- What a command reads from a line whose words and options are arranged in any way.
+use Rattle.safl_command.proofs.Common.{Row, Rule, Shape, Text, list_any, or-true, usize_max}
 use Rattle.std.proofs.Common.{◌≡◌, ◌∙◌, ℕ, ◌+◌, min, List, [], ◌∷◌, ◌++◌, Bool, true, false, Option, Some, None, inl, inr, refl, sym, ap, subst, codes, not, ◌&&◌, ◌||◌}
 use Rattle.std.specs.Prelude.{if◌then◌else◌, unwrap_or}
 use Rattle.std.specs.Str.{bytes_eq}
-use Rattle.std.specs.List.{list_any}
 use Rattle.std.proofs.lemmas.Bool.{false≢true, and_parts, not-true, or_parts}
-use Rattle.clap.specs.Words.{Shape, Row, Rule, Text}
-use Rattle.clap.specs.Lexer.{usize_max}
 use Rattle.clap.specs.Walk.{Walk, Waiting, idle, positional, arg_by_id, arg_by_index, has_row}
-use Rattle.std.proofs.Math.Bool.{or-true}
 use Rattle.safl_command.specs.Arranged.{GivenOption, IsWritten, Arranged, ends, then_word, then_option, then_hyphens}
 use Rattle.safl_command.proofs.Rows.{more, has_more, same_text, self_text, apart_text, pour, said}
 use Rattle.safl_command.proofs.Uses.{valued, flagged, placed, rest_placed, Adds, adds_valued, adds_flagged, adds_placed, adds_rest}

@@ -1,18 +1,13 @@
 -- Exactly which lines are commands.
+use Rattle.safl_command.proofs.Common.{AreTexts, Kinds, Row, Rule, Shape, Text, false≢true, list_any, option_map_or, or_else, or_parts}
 use Rattle.std.proofs.Common.{◌≡◌, ◌∙◌, List, [], ◌∷◌, ◌++◌, map, Bool, true, false, Option, Some, None, refl, sym, ap, subst, fold, codes, cond, ◌||◌}
 use Rattle.std.specs.Prelude.{option_map, find, is_some}
-use Rattle.std.specs.List.{list_any}
 use Rattle.std.specs.Str.{bytes_eq, IsUtf8}
-use Rattle.std.specs.Option.{option_map_or}
-use Rattle.std.proofs.lemmas.Bool.{false≢true, or_parts}
-use Rattle.clap.specs.Words.{Shape, Kinds, Row, Rule, Text}
-use Rattle.clap.specs.Kinds.{or_else}
 use Rattle.clap.specs.Simple.{App, built, names_of, entered}
 use Rattle.clap.specs.Walk.{Names, Walk, idle, answers_to, subcommand_met, subcommand_or_other}
 use Rattle.clap.specs.Walk.{walk_from, nothing_held, arg_by_long, arg_by_short, arg_by_index, walked, stop_after}
 use Rattle.clap.specs.Faults.{walk_fault, turn_fault, other_fault, step_fault, long_fault, positional_fault, stray_fault, built_fault, entered_fault}
 use Rattle.clap.proofs.OnLiterals.{clap_on_literals}
-use Rattle.safl_command.specs.Arranged.{AreTexts}
 use Rattle.safl_command.specs.Forms.{Argument, app, forms}
 use Rattle.safl_command.specs.Commands.{Command, command_of, command_of_line, faultless}
 use Rattle.safl_command.specs.Spelled as spells

@@ -1,20 +1,15 @@
 -- Which command a line is, by the words and the options of a form.
+use Rattle.safl_command.proofs.Common.{AreTexts, Arranged, DefaultValue, explicit_source, false≢true, option_map_or, or-true, or_parts}
 use Rattle.std.proofs.Common.{◌≡◌, ◌∙◌, ℕ, List, [], ◌∷◌, ◌++◌, Bool, true, false, Option, Some, None, refl, sym, ap, ap₂, subst, fold, cond, codes, ◌||◌, find, is_some}
 use Rattle.std.specs.Prelude.{if◌then◌else◌, option_and_then, option_map, slice_get, unwrap_or}
 use Rattle.std.specs.Str.{bytes_eq}
-use Rattle.std.specs.Option.{option_map_or}
-use Rattle.std.proofs.lemmas.Bool.{false≢true, or_parts}
-use Rattle.std.proofs.Math.Bool.{or-true}
 use Rattle.std.proofs.Math.Path.{fun_ext}
 use Rattle.clap.specs.Words.{Shape, Kinds, Row, Text}
-use Rattle.clap.specs.Facts.{explicit_source}
 use Rattle.clap.specs.Kinds.{or_else, check_kinds}
 use Rattle.clap.specs.Simple.{built, new_shape, rows_at, filled, help_rule}
 use Rattle.clap.specs.Walk.{Held, idle, at_row, settled, has_row, with_default, more_values, walked, walk_from, nothing_held}
 use Rattle.clap.specs.Faults.{default_fault, defaults_fault, given_default_fault, check_fault, walk_fault, level_fault, settle_fault}
-use Rattle.clap.specs.declared.parser.matches.ValueSource.TheVariants.{DefaultValue}
 use Rattle.clap.proofs.OnLiterals.{clap_on_literals}
-use Rattle.safl_command.specs.Arranged.{Arranged, AreTexts}
 use Rattle.safl_command.specs.Commands.{Command, command_of, command_in, command_from, faultless}
 use Rattle.safl_command.specs.Forms.{Argument, Name, Option as Needed, Choice, Flag, Rest, app, forms}
 use Rattle.safl_command.proofs.Rows.{pour, row, row_for, said, Shows, shows_poured, has_found, same_text}

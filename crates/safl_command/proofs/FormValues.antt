@@ -1,15 +1,11 @@
 -- The arguments of a form: their rules, their values, the options that say these values, and the names that tell them apart.
+use Rattle.safl_command.proofs.Common.{GivenOption, Rule, Shape, Text, list_all, list_any, or-true, usize_max}
 use Rattle.std.proofs.Common.{◌≡◌, ◌∙◌, ℕ, ◌+◌, min, List, [], ◌∷◌, ◌++◌, Bool, true, false, Option, Some, None, cond, refl, sym, ap, subst, ◌⊎◌, inl, inr, codes, ◌||◌, ◌&&◌, not}
 use Rattle.std.specs.Prelude.{if◌then◌else◌, option_to_list}
-use Rattle.std.specs.List.{list_any, list_all}
 use Rattle.std.specs.Str.{bytes_eq}
 use Rattle.std.proofs.lemmas.Bool.{false≢true, and_parts, not-true, or_parts}
-use Rattle.std.proofs.Math.Bool.{or-true}
-use Rattle.clap.specs.Words.{Shape, Rule, Text}
-use Rattle.clap.specs.Lexer.{usize_max}
 use Rattle.clap.specs.Simple.{filled, help_rule}
 use Rattle.clap.specs.Walk.{arg_by_long, arg_by_short}
-use Rattle.safl_command.specs.Arranged.{GivenOption}
 use Rattle.safl_command.specs.Forms.{Argument, Name, Option as Needed, Choice, Flag, Rest}
 use Rattle.safl_command.specs.Laws.{flag, option_if}
 use Rattle.safl_command.proofs.Rows.{same_text, self_text}

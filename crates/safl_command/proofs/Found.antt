@@ -1,13 +1,9 @@
 -- What is found for each argument of a form, by the words and the options of a line.
+use Rattle.safl_command.proofs.Common.{GivenOption, Row, Rule, Text, and-false, false≢true, list_any, or-true, or_parts}
 use Rattle.std.proofs.Common.{◌≡◌, ◌∙◌, ℕ, List, [], ◌∷◌, Bool, true, false, Option, Some, None, refl, sym, ap, ap₂, subst, not, ◌&&◌, ◌||◌, map, is_some}
 use Rattle.std.specs.Prelude.{if◌then◌else◌, slice_get}
 use Rattle.std.specs.Str.{bytes_eq}
-use Rattle.std.specs.List.{list_any}
-use Rattle.std.proofs.lemmas.Bool.{false≢true, or_parts}
-use Rattle.std.proofs.Math.Bool.{or-true, and-false}
-use Rattle.clap.specs.Words.{Row, Rule, Text}
 use Rattle.clap.specs.Takes.{is_given}
-use Rattle.safl_command.specs.Arranged.{GivenOption}
 use Rattle.safl_command.specs.Forms.{Argument, Name, Option as Needed, Choice, Flag, Rest}
 use Rattle.safl_command.proofs.Rows.{same_text, self_text}
 use Rattle.safl_command.proofs.Arranging.{among, are_distinct, named, given, given_value, is_place, words_of, AreTaken}

@@ -1,3 +1,4 @@
+mod Common
 pub mod Building
 pub mod Parsed
 pub mod Values

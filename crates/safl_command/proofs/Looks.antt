@@ -1,11 +1,10 @@
 -- What a word can look like: a plain word, `--`, an option, or letters after one hyphen.
+use Rattle.safl_command.proofs.Common.{IsUnhyphened, Text}
 use Rattle.std.proofs.Common.{◌≡◌, ◌∙◌, ℕ, suc, ◌+◌, [], ◌∷◌, ◌++◌, Bool, true, false, Some, None, cond, refl, sym, ap, subst, not, ◌||◌, take, drop, arith}
 use Rattle.std.specs.Prelude.{◌==◌, if◌then◌else◌}
 use Rattle.std.specs.List.{list_any, before_first, after_first, position_or_len}
 use Rattle.std.proofs.lemmas.Bool.{false≢true, or_parts, eqb-true}
-use Rattle.clap.specs.Words.{Text}
 use Rattle.clap.specs.Lexer.{long_of, has_byte}
-use Rattle.safl_command.specs.Arranged.{IsUnhyphened}
 
 pub data Looks : Text → Type 0 where
   plain : (word : Text) → IsUnhyphened word → Looks word

@@ -1,13 +1,12 @@
 -- Decimal words are no flags, and say their number.
+use Rattle.safl_command.proofs.Common.{IsUnhyphened, list_all}
 use Rattle.std.proofs.Common.{◌≡◌, ℕ, List, [], ◌∷◌, length, Bool, true, Option, Some, None, ◌&&◌, subst}
 use Rattle.std.specs.Prelude.{nat_le, nat_lt, if◌then◌else◌, ◌^◌}
-use Rattle.std.specs.List.{list_all}
 use Rattle.std.specs.Cmp.{first_so, second_so}
 use Rattle.safl_word.specs.Numerals.{value, is_digit}
 use Rattle.safl_command.specs.Limits.{cycles_max}
 use Rattle.safl_word.specs.Limits.{generated_max}
 use Rattle.safl_command.specs.Values.{is_number, is_within}
-use Rattle.safl_command.specs.Arranged.{IsUnhyphened}
 use Rattle.safl_command.specs.Laws.{IsNumber, IsLimit, IsCount}
 
 -- the number of a word that fits

@@ -1,10 +1,7 @@
 -- A line that a command reads without a fault is arranged of words and options of the command's form.
+use Rattle.safl_command.proofs.Common.{Row, Rule, Shape, Text, false≢true, option_map_or, or_else, or_parts}
 use Rattle.std.proofs.Common.{◌≡◌, ◌∙◌, ℕ, List, [], ◌∷◌, ◌++◌, Bool, true, false, Option, Some, None, refl, sym, ap, subst, inl, inr, codes, ◌||◌, append_assoc}
 use Rattle.std.specs.Str.{bytes_eq, IsUtf8}
-use Rattle.std.specs.Option.{option_map_or}
-use Rattle.std.proofs.lemmas.Bool.{false≢true, or_parts}
-use Rattle.clap.specs.Words.{Shape, Row, Rule, Text}
-use Rattle.clap.specs.Kinds.{or_else}
 use Rattle.clap.specs.Simple.{filled, help_rule}
 use Rattle.clap.specs.Walk.{Held, Walk, Waiting, Step, idle, option, arg_by_short, has_row, arg_by_long, settled}
 use Rattle.clap.specs.Faults.{turn_fault, step_fault, settle_fault, stray_fault, positional_fault, use_fault, long_fault}

@@ -1,22 +1,17 @@
 -- Words that have a fault wherever they stand.
+use Rattle.safl_command.proofs.Common.{AreTexts, ErrorKind, Kinds, Row, Rule, Shape, Text, and-false, option_map_or, or_else}
 use Rattle.std.proofs.Common.{◌≡◌, ◌∙◌, ℕ, List, [], ◌∷◌, ◌++◌, Bool, true, false, Option, Some, None, cond, refl, sym, ap, subst, fold}
 use Rattle.std.specs.Prelude.{◌==◌, if◌then◌else◌, slice_get, ◌||◌, ◌&&◌, is_some, option_and_then, length, drop}
 use Rattle.std.specs.Str.{bytes_eq, chars, IsUtf8, encode_utf8_all}
 use Rattle.std.specs.Char.{encode_utf8}
-use Rattle.std.specs.Option.{option_map_or}
-use Rattle.std.proofs.Math.Bool.{and-false}
 use Rattle.std.proofs.lemmas.Str.{encodes-chars}
-use Rattle.clap.specs.Words.{Shape, Kinds, Row, Rule, Text}
-use Rattle.clap.specs.Kinds.{or_else}
 use Rattle.clap.specs.Lexer.{long_of, long_of_rest}
 use Rattle.clap.specs.Simple.{filled, help_rule}
 use Rattle.clap.specs.Walk.{Held, Walk, Waiting, walked, value, is_pending, takes_values, arg_by_short, arg_by_long, reacted}
 use Rattle.clap.specs.Walk.{settled, Step, word_met, subcommand_met}
 use Rattle.clap.specs.Faults.{walk_fault, turn_fault, step_fault, other_fault, flag_word_fault, bundle_fault, bundle_step_fault, flags_fault}
 use Rattle.clap.specs.Faults.{short_fault, long_fault, react_fault, option_fault, settle_fault, positional_fault, stray_fault, use_fault}
-use Rattle.clap.specs.declared.error.kind.ErrorKind.{ErrorKind}
 use Rattle.clap.specs.declared.error.kind.ErrorKind.TheVariants as kind
-use Rattle.safl_command.specs.Arranged.{AreTexts}
 use Rattle.safl_command.proofs.Uses.{placed, rest_placed}
 use Rattle.safl_command.proofs.Stepping.{IsRead, unhyphened_no_flag, read_none}
 use Rattle.safl_command.proofs.Walking.{at, held, IsOpen, no_subcommand, word_quiet, hyphens_read}

@@ -1,14 +1,11 @@
 -- What is found for an argument, after uses of arguments.
+use Rattle.safl_command.proofs.Common.{CommandLine, DefaultValue, Row, Rule, Text, explicit_source, false≢true, or_parts}
 use Rattle.std.proofs.Common.{◌≡◌, ◌∙◌, List, [], ◌∷◌, ◌++◌, Bool, true, false, Option, Some, None, cond, refl, sym, ap, subst, ◌||◌, is_some, find, append_assoc}
 use Rattle.std.specs.Prelude.{if◌then◌else◌}
 use Rattle.std.specs.Str.{bytes_eq}
-use Rattle.std.proofs.lemmas.Bool.{false≢true, or_parts}
 use Rattle.std.proofs.lemmas.Slice.Eq.{bytes_eq-Decides}
-use Rattle.clap.specs.Words.{Row, Rule, Text}
-use Rattle.clap.specs.Facts.{explicit_source}
 use Rattle.clap.specs.Walk.{at_row, more_values, without, has_row, reading_by, stronger}
 use Rattle.clap.specs.declared.parser.matches.ValueSource.{ValueSource}
-use Rattle.clap.specs.declared.parser.matches.ValueSource.TheVariants.{CommandLine, DefaultValue}
 use Rattle.std.proofs.lemmas.List.{append-nil}
 
 pub same_text : (xs ys : Text) → bytes_eq xs ys ≡ true → xs ≡ ys

@@ -1,11 +1,9 @@
 -- The commands of the lines, row by row: what the words and options of a row make, and which values make a command.
+use Rattle.safl_command.proofs.Common.{Arranged, GivenOption, Text, option_map_or}
 use Rattle.std.proofs.Common.{◌≡◌, ◌∙◌, List, [], ◌∷◌, Bool, true, false, Option, Some, None, refl, ap, subst, codes, unwrap_or}
 use Rattle.std.specs.Prelude.{if◌then◌else◌, option_and_then, option_map, option_to_list, slice_get, find}
 use Rattle.std.specs.Str.{bytes_eq}
-use Rattle.std.specs.Option.{option_map_or}
-use Rattle.clap.specs.Words.{Text}
 use Rattle.safl_word.specs.Numerals.{value}
-use Rattle.safl_command.specs.Arranged.{GivenOption, Arranged}
 use Rattle.safl_command.specs.Forms.{Argument, forms}
 use Rattle.safl_command.specs.Values.{filled}
 use Rattle.safl_command.specs.Traces.{Traces, are_apart}

@@ -1,10 +1,10 @@
 -- How `clap` reads words that are no flags, word by word.
+use Rattle.safl_command.proofs.Common.{IsUnhyphened, or_else}
 use Rattle.std.proofs.Common.{◌≡◌, ◌∙◌, List, [], ◌∷◌, ◌++◌, Bool, true, false, Option, Some, None, refl, ap, codes, arith}
 use Rattle.std.specs.Prelude.{◌==◌, find, fold, is_some, if◌then◌else◌}
 use Rattle.std.specs.Str.{bytes_eq}
 use Rattle.std.proofs.lemmas.List.{append_assoc, append-nil}
 use Rattle.clap.specs.Words.{App, Shape, Kinds, Row, Rule, Text}
-use Rattle.clap.specs.Kinds.{or_else}
 use Rattle.clap.specs.Lexer.{long_of, short_of}
 use Rattle.clap.specs.Simple.{built, names_of, label_of, rows_at, entered, argument_words}
 use Rattle.clap.specs.Walk.{Names, Held, Walk, Step, Waiting, idle, option, positional, walked, walked_from, walk_from, nothing_held, after_step}
@@ -12,7 +12,6 @@ use Rattle.clap.specs.Walk.{word_met, subcommand_or_other, subcommand_met, plain
 use Rattle.clap.specs.Faults.{walk_fault, turn_fault, word_fault, other_fault, step_fault, level_fault, built_fault, entered_fault, settle_fault, defaults_fault, check_fault}
 use Rattle.safl_command.specs.Forms.{app}
 use Rattle.safl_command.specs.Commands.{Command, command_of, command_of_line, faultless}
-use Rattle.safl_command.specs.Arranged.{IsUnhyphened}
 
 -- ---- the program's own level: after the command's word, all words go to the command
 

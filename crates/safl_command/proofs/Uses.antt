@@ -1,14 +1,13 @@
 -- What a use of each kind of argument makes, and that it has no fault.
+use Rattle.safl_command.proofs.Common.{CommandLine, or_else}
 use Rattle.std.proofs.Common.{◌≡◌, ℕ, List, [], ◌∷◌, Bool, true, false, Some, refl, ap, codes, ◌&&◌}
 use Rattle.std.specs.Prelude.{if◌then◌else◌, not}
 use Rattle.clap.specs.Words.{Row, Rule, Text, Kinds, new_rule}
-use Rattle.clap.specs.Kinds.{or_else}
 use Rattle.clap.specs.Simple.{filled, with_index}
 use Rattle.clap.specs.Walk.{used, has_row, with_values, reading_by}
 use Rattle.clap.specs.Faults.{use_fault}
 use Rattle.clap.specs.declared.builder.action.ArgAction.TheVariants.{Append, SetTrue}
 use Rattle.clap.specs.declared.error.kind.ErrorKind.TheVariants as kind
-use Rattle.clap.specs.declared.parser.matches.ValueSource.TheVariants.{CommandLine}
 use Rattle.safl_command.proofs.Rows.{more, without_none}
 
 -- an option with a value, which may have to be given

@@ -1,10 +1,8 @@
 -- How `clap` reads the words and the options of a command, one by one.
+use Rattle.safl_command.proofs.Common.{Kinds, Row, Rule, Shape, Text, option_map_or, or_else}
 use Rattle.std.proofs.Common.{◌≡◌, ◌∙◌, ℕ, ◌+◌, min, List, [], ◌∷◌, Bool, true, false, Option, Some, None, refl, ap, codes, ◌||◌}
 use Rattle.std.specs.Prelude.{if◌then◌else◌, nat_lt}
 use Rattle.std.specs.Str.{bytes_eq}
-use Rattle.std.specs.Option.{option_map_or}
-use Rattle.clap.specs.Words.{Shape, Kinds, Row, Rule, Text}
-use Rattle.clap.specs.Kinds.{or_else}
 use Rattle.clap.specs.Lexer.{long_of, usize_max}
 use Rattle.clap.specs.Walk.{Held, Walk, Step, Waiting, idle, option, positional, value, trailing, walked, after_step, after_flag, plain_word}
 use Rattle.clap.specs.Walk.{option_word, long_met, long_or_other, subcommand_met, subcommand_or_other, settled, settled_rows}

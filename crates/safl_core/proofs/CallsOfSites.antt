@@ -1,19 +1,13 @@
 -- Which sites may wait otherwise than before an event.
+use Rattle.safl_core.proofs.Common.{CanFire, CheckedProgram, IsKept, Program, Shown, Span, Word, cases_eq, cases_lt, ne_eqb, put_at}
+use Rattle.safl_core.proofs.Common.{put_off, serves, state, unit_for, wanted_at}
 use Rattle.std.proofs.Common.{◌≡◌, ◌≢◌, ℕ, zero, suc, ◌<◌, ◌≤◌, ◌⊎◌, inl, inr, ◌&&◌, List, cond, is_some, Option, refl, sym, ap, ◌∙◌, ⊎_elim, arith}
-use Rattle.std.proofs.lemmas.Bool.{cases_eq, ne_eqb, cases_lt}
-use Rattle.safl_word.specs.Words.{Word}
-use Rattle.safl_term.specs.Checked.{CheckedProgram}
-use Rattle.safl_term.specs.Program.{Program, unit_for}
 use Rattle.safl_term.specs.Readiness.{Stage, Unsent, Sent, Returned, Answer, Ready, LoopTo}
 use Rattle.safl_calls.specs.Machine.{State, Mode, Runs, Delivers, Event, Accept, Finish, Return, LoopInto, Enabled, says, asked, is_unsent, fire, accept, finish, give_back, loop_into, ended}
-use Rattle.safl_calls.proofs.Basics.{serves, put_at, put_off}
-use Rattle.safl_core.specs.declared.spans.Span.{Span}
 use Rattle.safl_core.specs.declared.state.State as code
 use Rattle.safl_core.specs.Marking.{Touches}
-use Rattle.safl_core.specs.Shown.{Shown, state, CanFire, IsKept}
 use Rattle.safl_core.specs.Spans.{InSpan}
 use Rattle.safl_core.specs.States.{IsStateAfter, Leads, EndsBody, calls_of}
-use Rattle.safl_core.specs.Testing.{wanted_at}
 use Rattle.safl_core.proofs.KeptByEvents.{inv, looping}
 use Rattle.safl_core.proofs.LawsOfKept.{waits_test}
 use Rattle.safl_core.proofs.StatesByEvents.{keeps_next}

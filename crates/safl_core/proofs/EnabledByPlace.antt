@@ -1,23 +1,17 @@
 -- The enabled events, by their places.
+use Rattle.safl_core.proofs.Common.{CanFire, IsKept, IsOver, Program, Shown, Word, can, none-some, slice_get, state}
 use Rattle.std.proofs.Common.{◌≡◌, ℕ, zero, suc, ◌+◌, ◌-◌, ◌<◌, ◌≤◌, ◌⊎◌, inl, inr, List, [], ◌∷◌, ◌++◌, length, cond, Option, Some, Bool, true}
 use Rattle.std.proofs.Common.{false, nat_lt, refl, sym, ap, ◌∙◌, subst, ⊎_elim, arith, append_assoc}
-use Rattle.std.specs.Prelude.{slice_get}
 use Rattle.std.proofs.lemmas.Bool.{lt-ltb, le-ltb, ltb-true, ltb-false, cases_eq, cases_Bool}
 use Rattle.std.proofs.lemmas.List.{nil_from_length}
-use Rattle.std.proofs.lemmas.Option.{none-some}
 use Rattle.std.proofs.Math.Nat.{add-sub_cancel_left}
 use Rattle.safl_calls.specs.Machine.{Enabled}
 use Rattle.safl_core.proofs.LawsOfKept.{enabled_of, enabled_can, accept_within}
-use Rattle.safl_word.specs.Words.{Word}
 use Rattle.safl_word.proofs.Lists.{get_end, get_front, get_pushed, nil_at_end}
-use Rattle.safl_term.specs.Program.{Program}
 use Rattle.safl_calls.specs.Machine.{State, Event, Accept, Finish, Return, LoopInto}
 use Rattle.safl_calls.specs.Picks.{picks}
 use Rattle.safl_core.specs.Listing.{listed, event_at, places, count_below}
 use Rattle.safl_core.specs.Picking.{Precedes, IsListing}
-use Rattle.safl_core.specs.Testing.{can}
-use Rattle.safl_core.specs.Shown.{Shown, state, CanFire, IsKept}
-use Rattle.safl_core.specs.Outcomes.{IsOver}
 use Rattle.safl_term.specs.Readiness.{Answer as Kept}
 use Rattle.safl_core.proofs.KeptByEvents.{finish_in, return_in, looping}
 

@@ -1,14 +1,11 @@
 -- The event at a place among the enabled ones.
+use Rattle.safl_core.proofs.Common.{Program, Word, can, cases_lt, from_bool, is_idle, unit_for}
 use Rattle.std.proofs.Common.{◌≡◌, ℕ, zero, suc, ◌+◌, ◌*◌, ◌<◌, ◌≤◌, ⊎_elim, List, [], ◌∷◌, ◌++◌, length, take, cond, get_or, is_some, ◌&&◌, Some, Bool, true, false, refl, sym, ap, ◌∙◌, arith}
 use Rattle.std.specs.Prelude.{sum, slice_get, not}
-use Rattle.std.specs.Int.{from_bool}
 use Rattle.std.proofs.lemmas.List.{take_all, get_or_past, length-append}
 use Rattle.std.proofs.lemmas.List.Sums.{sum_by_more}
-use Rattle.std.proofs.lemmas.Bool.{cases_lt}
-use Rattle.safl_word.specs.Words.{Word}
 use Rattle.safl_word.proofs.Lists.{get_front}
 use Rattle.safl_word.proofs.Booleans.{bool_number}
-use Rattle.safl_term.specs.Program.{Program, unit_for}
 use Rattle.safl_number_set.specs.Groups.{counted}
 use Rattle.safl_number_set.proofs.WeighedLists.{weighed_long, weighed_at}
 use Rattle.safl_calls.specs.Machine.{State, Event, Accept, Finish, Return, LoopInto, asked}
@@ -16,7 +13,6 @@ use Rattle.safl_calls.specs.Picks.{picks}
 use Rattle.safl_core.specs.declared.enabled.Enabled.{Enabled}
 use Rattle.safl_core.specs.Listing.{listed, busy, count_below}
 use Rattle.safl_core.specs.Marking.{Marks, AreMarked, IsNth, marked}
-use Rattle.safl_core.specs.Testing.{can, is_idle}
 use Rattle.safl_core.proofs.EnabledByPlace.{picks_zero, count_more, picked_at, count_none, count_suc}
 
 bit_true : (b : Bool) → from_bool b ≡ 1 → b ≡ true

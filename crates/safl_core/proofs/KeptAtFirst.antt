@@ -1,10 +1,8 @@
 -- What a machine keeps at first.
+use Rattle.safl_core.proofs.Common.{HasRoom, IsKnown, IsTrue, false≢true, fun_ext, slice_get, stage_at, state_of, unit_at, widths_len}
 use Rattle.std.proofs.Common.{◌≡◌, ℕ, suc, ◌+◌, ◌<◌, ◌≤◌, List, [], ◌∷◌, ◌++◌, length, take, Bool, true, false, Option, Some, None, get_or, refl, sym, ap, ◌∙◌, arith}
-use Rattle.std.specs.Prelude.{slice_get, IsTrue}
-use Rattle.std.proofs.lemmas.Bool.{false≢true}
 use Rattle.std.proofs.lemmas.List.{get_or-map, get_or_read, take_all}
 use Rattle.std.proofs.Math.Seq.{take-suc}
-use Rattle.std.proofs.Math.Path.{fun_ext}
 use Rattle.std.proofs.lemmas.Option.{slice_get_within}
 use Rattle.safl_word.specs.Words.{Word, no_word, widths}
 use Rattle.safl_word.proofs.Lists.{get_or_is}
@@ -14,11 +12,7 @@ use Rattle.safl_term.proofs.HeldByChecked.{few_nodes}
 use Rattle.safl_calls.specs.Machine as core
 use Rattle.safl_core.specs.declared.mode.Mode.{Mode}
 use Rattle.safl_evaluate.specs.declared.stage.Stage.{Stage}
-use Rattle.safl_core.specs.Knowing.{IsKnown, HasRoom}
-use Rattle.safl_core.specs.Modes.{unit_at, state_of}
 use Rattle.safl_core.specs.Shown.{shown_of, IsKept, IsReached}
-use Rattle.safl_evaluate.specs.Stages.{stage_at}
-use Rattle.safl_evaluate.proofs.RunsByParts.{widths_len}
 use Rattle.safl_core.proofs.WritesAreSteps.{state_is}
 
 pub enough_room : (c : CheckedProgram) (room : ℕ) → IsChecked c → 50016 ≤ room → HasRoom c.program room

@@ -1,27 +1,18 @@
 -- What a machine keeps, from one event to the next.
+use Rattle.safl_core.proofs.Common.{CheckedProgram, Numbered, Program, Word, args_given, cases_eq, length_push, ne_eqb, not_loop, numbered}
+use Rattle.safl_core.proofs.Common.{same_Some, state_of, unit_for}
 use Rattle.std.proofs.Common.{◌≡◌, ◌≢◌, ℕ, zero, suc, ◌+◌, ◌<◌, ◌≤◌, List, [], ◌∷◌, ◌++◌, cond, eqb, Option, Some, None, get_or, refl, sym, ap, ◌∙◌, subst, ⊎_elim, arith}
-use Rattle.std.proofs.lemmas.Bool.{cases_eq, ne_eqb}
-use Rattle.std.proofs.lemmas.Option.{same_Some}
-use Rattle.std.proofs.lemmas.List.{length_push}
-use Rattle.safl_word.specs.Words.{Word}
-use Rattle.safl_term.specs.Checked.{CheckedProgram}
-use Rattle.safl_term.specs.Program.{Program, unit_for}
 use Rattle.safl_term.specs.Readiness.{Unsent, Sent, Returned, Answer, Ready, LoopTo, NotYet, answer, wanted, back_word, word_of}
-use Rattle.safl_term.proofs.Apart.{not_loop}
 use Rattle.safl_calls.specs.Machine.{State, Mode, Idle, Runs, Delivers, Event, Finish, Return, LoopInto, opening, put, back, says, says_as, asked}
 use Rattle.safl_calls.specs.Machine.{asked_as, Enabled, Legal, after_event, fire, accept, finish, give_back, loop_into, ended}
 use Rattle.safl_calls.proofs.Basics.{serves, cond_some, put_at, put_off, after_append, after_one, legal_append, legal_one}
 use Rattle.safl_calls.proofs.Invariant.{Inv, inv_fire, inv_after, found}
 use Rattle.safl_calls.proofs.Bodies.{goes_stands}
 use Rattle.safl_calls.proofs.Locality.{answer_local, wanted_local}
-use Rattle.safl_calls.proofs.Numbered.{Numbered}
-use Rattle.safl_calls.proofs.FromWellFormed.{numbered}
 use Rattle.safl_core.specs.declared.mode.Mode as modes_declared
 use Rattle.safl_evaluate.specs.declared.stage.Stage as stages_declared
 use Rattle.safl_core.specs.Knowing.{IsKnown, BackFits, RunsMember}
-use Rattle.safl_core.specs.Modes.{state_of}
 use Rattle.safl_core.specs.Shown.{Shown, state, IsReached, CanFire, IsKept, serves_of, word_given}
-use Rattle.safl_evaluate.specs.Answers.{args_given}
 use Rattle.safl_core.proofs.WritesAreSteps.{core_state}
 use Rattle.safl_core.proofs.WordsFit.{Fits, fits_after, fits_fire}
 

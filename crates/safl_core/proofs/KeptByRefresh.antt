@@ -1,19 +1,12 @@
 -- What is kept of partial evaluation, after a unit's body was looked at anew.
+use Rattle.safl_core.proofs.Common.{Answer, CheckedProgram, IsChecked, IsSpan, NotYet, Numbered, Program, Span, Word, cases_eq, eq-eqb}
+use Rattle.safl_core.proofs.Common.{get_or-set_other, get_or-set_same, ne_eqb, widths}
 use Rattle.std.proofs.Common.{◌≡◌, ◌≢◌, ℕ, suc, ◌<◌, ◌≤◌, List, length, cond, eqb, Option, None, true, get_or, slice_set, sym, ap, ◌∙◌, subst, ⊎_elim, arith}
-use Rattle.std.proofs.lemmas.Bool.{cases_eq, eq-eqb, ne_eqb}
-use Rattle.std.proofs.lemmas.List.{get_or-set_other, get_or-set_same}
-use Rattle.safl_word.specs.Words.{Word, widths}
-use Rattle.safl_term.specs.Checked.{CheckedProgram, IsChecked}
-use Rattle.safl_term.specs.Program.{Program}
-use Rattle.safl_term.specs.Readiness.{Answer, NotYet}
 use Rattle.safl_term.specs.WellFormed.{HasWidth}
 use Rattle.safl_calls.specs.Machine.{State, back, says, asked_as}
-use Rattle.safl_calls.proofs.Numbered.{Numbered}
 use Rattle.safl_evaluate.specs.declared.stage.Stage.{Stage}
 use Rattle.safl_evaluate.specs.Evaluating.{CanRun, Unasked}
-use Rattle.safl_core.specs.declared.spans.Span.{Span}
 use Rattle.safl_core.specs.Knowing.{IsKnown, BackFits}
-use Rattle.safl_core.specs.Spans.{IsSpan}
 use Rattle.safl_core.specs.States.{ChangesWithin}
 
 -- a function's body may be evaluated with arguments of the widths of its parameters

@@ -1,27 +1,17 @@
 -- The laws of the machine, of one that is kept.
+use Rattle.safl_core.proofs.Common.{CanFire, GoesOn, IsBounded, IsKept, IsOver, IsTrue, IsValue, Program, Shown, Word, bytes_eq-Decides}
+use Rattle.safl_core.proofs.Common.{can, delivers_to, found, get_or_read, is_idle, is_ready, is_sent, loops_to, none-some, numbered, runs}
+use Rattle.safl_core.proofs.Common.{same_Some, stage_at, stage_of, state, unit_for, wanted_at, widths}
 use Rattle.std.proofs.Common.{◌≡◌, ◌+◌, ◌*◌, ◌≤◌, ◌<◌, ℕ, get_or, List, length, Option, Some, None, Bool, true, false, is_some, cond, eqb, nat_le, zero, suc, ◌&&◌, refl, sym, ap, ◌∙◌, subst, arith}
 use Rattle.std.proofs.lemmas.Bool.{eqb-true, eq-eqb, and_parts, and_from, false≢true, le-leb}
-use Rattle.std.specs.Prelude.{IsTrue}
-use Rattle.std.proofs.lemmas.List.{get_or_read}
-use Rattle.std.proofs.lemmas.Option.{none-some, same_Some}
 use Rattle.std.proofs.Math.Bool.{and-false}
 use Rattle.safl_calls.proofs.Basics.{serves, some_of}
-use Rattle.safl_calls.proofs.Invariant.{found}
 use Rattle.safl_evaluate.specs.declared.stage.Stage as declared
-use Rattle.safl_evaluate.specs.Stages.{stage_of, stage_at}
-use Rattle.safl_word.specs.Words.{Word, widths}
 use Rattle.safl_term.specs.Meaning.{loops}
-use Rattle.safl_term.specs.Program.{Program, unit_for}
 use Rattle.safl_term.specs.Readiness.{Stage, Unsent, Sent, Returned, Answer, Ready, LoopTo, NotYet, back_word}
 use Rattle.safl_calls.specs.Machine.{State, Mode, Idle, Runs, Delivers, Event, Accept, Finish, Return, LoopInto, opening, after_event, asked, asked_as, back, says, Enabled, is_unsent}
-use Rattle.safl_calls.proofs.FromWellFormed.{numbered}
 use Rattle.safl_calls.proofs.MachineLaws as law
-use Rattle.safl_core.specs.Outcomes.{IsValue, IsBounded, GoesOn, IsOver}
-use Rattle.safl_core.specs.Shown.{Shown, state, CanFire, IsKept}
-use Rattle.safl_core.specs.Testing.{is_idle, runs, is_sent, delivers_to, can, wanted_at}
-use Rattle.safl_evaluate.specs.Answers.{is_ready, loops_to}
 use Rattle.safl_core.proofs.KeptByEvents.{inv}
-use Rattle.std.proofs.lemmas.Slice.Eq.{bytes_eq-Decides}
 use Rattle.std.specs.Str.{bytes_eq}
 
 returned_is : (x : Stage) (v : Word) → back_word x ≡ Some v → x ≡ Returned v

@@ -1,3 +1,4 @@
+mod Common
 pub mod KeptByRefresh
 pub mod WritesAreSteps
 pub mod WordsFit

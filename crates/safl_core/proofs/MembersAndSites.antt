@@ -1,11 +1,9 @@
 -- The members of a unit, and the sites in their bodies.
+use Rattle.safl_core.proofs.Common.{CheckedProgram, IsChecked, Span, cases_eq, cases_lt}
 use Rattle.std.proofs.Common.{◌≡◌, ℕ, zero, suc, ◌<◌, ◌≤◌, ◌⊎◌, inl, inr, sym, ◌∙◌, subst, ⊎_elim, arith}
-use Rattle.std.proofs.lemmas.Bool.{cases_eq, cases_lt}
-use Rattle.safl_term.specs.Checked.{CheckedProgram, IsChecked}
 use Rattle.safl_term.proofs.HeldByChecked.{first_site_rises, first_site_past}
 use Rattle.safl_sites.proofs.NumbersFollow.{sited}
 use Rattle.safl_core.specs.Spans.{EndsMembers, IsSpan}
-use Rattle.safl_core.specs.declared.spans.Span.{Span}
 
 module _ (p : CheckedProgram) (h : IsChecked p) where
   rises : (f g : ℕ) → f ≤ g → g ≤ p.program.functions → p.first_site f ≤ p.first_site g

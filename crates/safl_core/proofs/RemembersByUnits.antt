@@ -1,30 +1,21 @@
 -- What is kept of the bodies that run, unit by unit.
+use Rattle.safl_core.proofs.Common.{Inv, IsPlan, Kept, Numbered, Program, Word, back_at, body_at, cases_eq, cases_lt, eq-eqb, ne_eqb, nodes}
+use Rattle.safl_core.proofs.Common.{put_at, put_off, serves, unit_at, unit_for}
 use Rattle.std.proofs.Common.{◌≡◌, ◌≢◌, ℕ, zero, suc, ◌+◌, ◌<◌, ◌≤◌, ◌⊎◌, List, [], length, take, Option, Some, None, cond, get_or, inl, inr, refl, sym, ap, ◌∙◌, subst, ⊎_elim, arith}
-use Rattle.std.proofs.lemmas.Bool.{cases_lt, cases_eq, eq-eqb, ne_eqb}
-use Rattle.safl_word.specs.Words.{Word}
-use Rattle.safl_term.specs.Sizes.{nodes}
 use Rattle.safl_term.specs.Terms.{Term, Const, Var, Op, If, Let, Call, Loop, Terms, Nil, Cons}
 use Rattle.safl_term.specs.Standing.{Stands, StandsIn}
-use Rattle.safl_term.specs.Program.{Program, unit_for}
 use Rattle.safl_term.specs.Readiness.{NotYet, Sent, Returned, back_word, wanted}
 use Rattle.safl_calls.specs.Machine.{Mode, Idle, Runs, Delivers, asked_as, says_as, back, give_back}
-use Rattle.safl_calls.proofs.Basics.{serves, put_at, put_off}
 use Rattle.safl_calls.specs.Machine as core
-use Rattle.safl_calls.proofs.Invariant.{Inv}
-use Rattle.safl_calls.proofs.Numbered.{Numbered}
 use Rattle.safl_calls.proofs.Apart.{idle_runs}
-use Rattle.safl_evaluate.specs.declared.kept.Kept.{Kept}
 use Rattle.safl_core.specs.declared.mode.Mode as modes_declared
 use Rattle.safl_evaluate.specs.declared.places.Place.{Place}
 use Rattle.safl_evaluate.specs.declared.places.Plan.{Plan}
 use Rattle.safl_evaluate.specs.declared.stage.Stage.{Stage}
 use Rattle.safl_evaluate.specs.Evaluating.{CanRun}
 use Rattle.safl_evaluate.specs.Keeping.{cell, Holds, Stood, Only, MayLook, Finds, without}
-use Rattle.safl_core.specs.Modes.{unit_at}
 use Rattle.safl_core.specs.declared.state.State.{State}
 use Rattle.safl_core.specs.Remembering.{Remembers, MayRenew}
-use Rattle.safl_evaluate.specs.Laying.{body_at, IsPlan}
-use Rattle.safl_evaluate.specs.Stages.{back_at}
 use Rattle.safl_core.specs.States.{Steps, Recalls, CanRenew, calls_of}
 use Rattle.safl_evaluate.proofs.HeldByParts.{holds_frame, holds_local, asked_held}
 use Rattle.safl_evaluate.proofs.RunsByParts.{not_wanted}

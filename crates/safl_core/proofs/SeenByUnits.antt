@@ -1,22 +1,13 @@
 -- Which units see an event.
+use Rattle.safl_core.proofs.Common.{AreCalled, CanFire, Inv, IsKept, Numbered, Program, Shown, Span, Word, cases_eq, eqb-true, found}
+use Rattle.safl_core.proofs.Common.{is_ready, loops_to, ne_eqb, not, put_at, put_off, state, true≢false, unit_for}
 use Rattle.std.proofs.Common.{◌≡◌, ◌≢◌, ℕ, zero, suc, ◌<◌, ◌⊎◌, inl, inr, ◌&&◌, Bool, true, false, List, cond, is_some, Option, Some, refl, sym, ap, ◌∙◌, subst, ⊎_elim, arith}
-use Rattle.std.specs.Prelude.{not}
-use Rattle.std.proofs.lemmas.Bool.{cases_eq, ne_eqb, eqb-true, true≢false}
-use Rattle.safl_word.specs.Words.{Word}
-use Rattle.safl_term.specs.Program.{Program, unit_for}
 use Rattle.safl_term.specs.Readiness.{Unsent, Sent, Returned, Ready, LoopTo, back_word}
 use Rattle.safl_calls.specs.Machine.{State, Mode, Idle, Runs, Delivers, Event, Accept, Finish, Return, LoopInto, put, back, says, says_as, asked, fire, accept, finish, give_back, loop_into, ended}
-use Rattle.safl_calls.proofs.Basics.{put_at, put_off}
-use Rattle.safl_calls.proofs.Invariant.{Inv, found}
-use Rattle.safl_calls.proofs.Numbered.{Numbered}
 use Rattle.safl_term.specs.Readiness.{Answer}
 use Rattle.safl_core.specs.declared.enabled.Enabled as sets
-use Rattle.safl_core.specs.declared.spans.Span.{Span}
-use Rattle.safl_core.specs.Called.{AreCalled}
 use Rattle.safl_core.specs.Marking.{AreMarked, RelistsAfter, RelistsCalls, Touches, Concerns, IsThere}
-use Rattle.safl_core.specs.Shown.{Shown, state, CanFire, IsKept}
 use Rattle.safl_core.specs.Testing.{can, is_idle, runs, delivers_to, delivered}
-use Rattle.safl_evaluate.specs.Answers.{is_ready, loops_to}
 use Rattle.safl_core.proofs.KeptByEvents.{same_says, looping, finish_in, return_in}
 use Rattle.safl_core.proofs.LawsOfKept.{accept_within}
 use Rattle.safl_core.proofs.SetsPutRight.{marks_after, rights_then}

@@ -1,17 +1,12 @@
 -- The sets of a machine whose main waits to be accepted.
+use Rattle.safl_core.proofs.Common.{AreCalled, Program, Word, bytes_eq-Decides, can, from_bool, widths}
 use Rattle.std.proofs.Common.{◌≡◌, ◌≢◌, ℕ, zero, suc, ◌<◌, List, length, set, cond, is_some, nat_le, get_or, replicate, Option, Some, None, Bool}
 use Rattle.std.proofs.Common.{true, false, refl, sym, ap, ◌∙◌, subst, arith, length-set}
-use Rattle.std.specs.Int.{from_bool}
 use Rattle.std.proofs.lemmas.List.{get_or-set_same, get_or-set_other, get_or-replicate, length-replicate}
-use Rattle.safl_word.specs.Words.{Word, widths}
-use Rattle.safl_term.specs.Program.{Program}
 use Rattle.safl_calls.specs.Machine.{Finish, Return, LoopInto, opening, asked}
 use Rattle.safl_number_set.specs.Groups.{Grouped}
 use Rattle.safl_core.specs.declared.enabled.Enabled.{Enabled}
-use Rattle.safl_core.specs.Called.{AreCalled}
 use Rattle.safl_core.specs.Marking.{Marks, AreMarked, OpensWith}
-use Rattle.safl_core.specs.Testing.{can}
-use Rattle.std.proofs.lemmas.Slice.Eq.{bytes_eq-Decides}
 
 abbrev no_words : Option (List Word)
 no_words = None

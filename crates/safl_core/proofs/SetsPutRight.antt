@@ -1,13 +1,9 @@
 -- Sets that are put right, number by number.
+use Rattle.safl_core.proofs.Common.{AreCalled, Program, Word, cases_eq, cases_lt, from_bool, true≢false}
 use Rattle.std.proofs.Common.{◌≡◌, ℕ, suc, ◌<◌, ◌⊎◌, Bool, Option, Some, None, is_some, List, length, set, get_or, refl, sym, ap, ◌∙◌, subst, ⊎_elim, arith, length-set}
-use Rattle.std.specs.Int.{from_bool}
-use Rattle.std.proofs.lemmas.Bool.{cases_eq, true≢false, cases_lt}
 use Rattle.std.proofs.lemmas.List.{get_or-set_same, get_or-set_other, set_past}
-use Rattle.safl_word.specs.Words.{Word}
-use Rattle.safl_term.specs.Program.{Program}
 use Rattle.safl_calls.specs.Machine.{State}
 use Rattle.safl_core.specs.declared.enabled.Enabled.{Enabled}
-use Rattle.safl_core.specs.Called.{AreCalled}
 use Rattle.safl_core.specs.Marking.{IsRight, Marks, Rights, Relists, HasPlaces, AreMarked, Nothing}
 
 pub rights_same : (p : ℕ → Bool) (s : List ℕ) → Rights p Nothing s s

@@ -1,18 +1,11 @@
 -- The state that the code keeps, from one event to the next.
+use Rattle.safl_core.proofs.Common.{Answer, CheckedProgram, IsKnown, IsSpan, Program, Span, Word, state_of}
 use Rattle.std.proofs.Common.{◌≡◌, ◌<◌, ◌≢◌, ℕ, ◌+◌, List, Option, None, get_or, slice_set, refl, sym, ap, ◌∙◌, subst, arith}
-use Rattle.safl_word.specs.Words.{Word}
-use Rattle.safl_term.specs.Checked.{CheckedProgram}
-use Rattle.safl_term.specs.Program.{Program}
 use Rattle.safl_calls.specs.Machine as core
-use Rattle.safl_term.specs.Readiness.{Answer}
 use Rattle.safl_core.specs.declared.mode.Mode.{Mode}
 use Rattle.safl_evaluate.specs.declared.stage.Stage.{Stage}
-use Rattle.safl_core.specs.declared.spans.Span.{Span}
 use Rattle.safl_core.specs.declared.state.State.{State}
-use Rattle.safl_core.specs.Knowing.{IsKnown}
-use Rattle.safl_core.specs.Modes.{state_of}
 use Rattle.safl_core.specs.Shown.{shown_of}
-use Rattle.safl_core.specs.Spans.{IsSpan}
 use Rattle.safl_core.specs.States.{IsStateAfter, CanRefresh, ChangesWithin, EndsBody, Steps, Refreshes, Leads, Knows, calls_of}
 use Rattle.safl_core.proofs.KeptByEvents.{next_reached, next_member, next_back}
 

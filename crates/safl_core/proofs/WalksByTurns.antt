@@ -1,23 +1,15 @@
 -- Walks, a turn at a time.
+use Rattle.safl_core.proofs.Common.{CheckedProgram, GoesOn, IsOver, IsPicked, Word, back_word, busy, false≢true, length_push, numbered}
 use Rattle.std.proofs.Common.{◌≡◌, ℕ, ◌+◌, ◌*◌, ◌<◌, List, [], ◌∷◌, ◌++◌, max, Option, Some, None, ◌⊎◌, ⊎_elim, refl, sym, ap, ◌∙◌, subst, arith}
 use Rattle.std.specs.Prelude.{IfNone, IsNone, IsSome}
-use Rattle.safl_term.specs.Readiness.{back_word}
 use Rattle.safl_core.specs.declared.event.Event as machine_event
 use Rattle.safl_core.proofs.LawsOfKept.{goes_on, over}
-use Rattle.std.proofs.lemmas.Bool.{false≢true}
-use Rattle.std.proofs.lemmas.List.{length_push}
-use Rattle.safl_word.specs.Words.{Word}
 use Rattle.safl_word.specs.Naturals.{number_after}
-use Rattle.safl_term.specs.Checked.{CheckedProgram}
 use Rattle.safl_term.specs.Meaning.{Main, main_cost, loops}
 use Rattle.safl_calls.specs.Machine.{Event, opening, after_event, fire, Enabled}
 use Rattle.safl_calls.proofs.Basics.{legal_append, legal_one}
-use Rattle.safl_calls.proofs.FromWellFormed.{numbered}
 use Rattle.safl_calls.proofs.MachineLaws as law
 use Rattle.safl_term.specs.Readiness.{Answer as Kept}
-use Rattle.safl_core.specs.Listing.{busy}
-use Rattle.safl_core.specs.Picking.{IsPicked}
-use Rattle.safl_core.specs.Outcomes.{GoesOn, IsOver}
 use Rattle.safl_core.specs.Shown.{Shown, state, event_of, CanFire, Fires, IsKept}
 use Rattle.safl_core.specs.Walking.{Walked, start, turn, IsShort}
 

@@ -1,11 +1,6 @@
 -- The words with which a unit wanted its sites, forgotten.
+use Rattle.safl_core.proofs.Common.{IsSpan, Program, Span, Word, cases_eq, cases_lt, eq-eqb, get_or-set_other, get_or-set_same, ne_eqb}
 use Rattle.std.proofs.Common.{◌≡◌, ◌≢◌, ℕ, ◌+◌, ◌<◌, ◌≤◌, List, length, cond, eqb, Option, None, get_or, slice_set, sym, ap, ◌∙◌, subst, ⊎_elim, arith}
-use Rattle.std.proofs.lemmas.Bool.{cases_eq, eq-eqb, ne_eqb, cases_lt}
-use Rattle.std.proofs.lemmas.List.{get_or-set_other, get_or-set_same}
-use Rattle.safl_word.specs.Words.{Word}
-use Rattle.safl_term.specs.Program.{Program}
-use Rattle.safl_core.specs.Spans.{IsSpan}
-use Rattle.safl_core.specs.declared.spans.Span.{Span}
 
 module _ (C : Program) (u : ℕ) where
   off_cleared : (o : Option (List Word)) (j : ℕ) → C.unit (C.caller j) ≢ u → o ≡ cond (eqb (C.unit (C.caller j)) u) None o

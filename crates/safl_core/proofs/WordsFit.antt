@@ -1,18 +1,13 @@
 -- The widths of words in a state that is reached.
+use Rattle.safl_core.proofs.Common.{Program, Word, cases_eq, eqb-true, not_loop, numbered, same_Some, unit_for, widths}
 use Rattle.std.proofs.Common.{◌≡◌, ℕ, zero, suc, ◌<◌, ◌≤◌, List, [], ◌∷◌, cond, eqb, Some, Bool, true, false, ◌⊎◌, inl, inr, refl, sym, ap, ◌∙◌, subst, ⊎_elim}
-use Rattle.std.proofs.lemmas.Bool.{cases_eq, eqb-true}
-use Rattle.std.proofs.lemmas.Option.{same_Some}
-use Rattle.safl_word.specs.Words.{Word, widths}
-use Rattle.safl_term.specs.Program.{Program, unit_for}
 use Rattle.safl_term.specs.Readiness.{Unsent, Sent, Returned, Ready, LoopTo, answer, wanted, back_word}
 use Rattle.safl_term.specs.WellFormed.{IsWellFormed, HasWidth}
 use Rattle.safl_term.proofs.Widths.{answer_width, loop_widths, wanted_widths}
-use Rattle.safl_term.proofs.Apart.{not_loop}
 use Rattle.safl_calls.specs.Machine.{State, Mode, Idle, Runs, Delivers, Event, Accept, Finish, Return, LoopInto, opening, put, back, says, says_as}
 use Rattle.safl_calls.specs.Machine.{asked, asked_as, Enabled, Legal, after_event, fire, accept, finish, give_back, loop_into, ended}
 use Rattle.safl_calls.proofs.Basics.{serves, put_at, put_off, some_none, cond_some}
 use Rattle.safl_calls.proofs.Invariant.{Inv, inv_fire, inv_open}
-use Rattle.safl_calls.proofs.FromWellFormed.{numbered}
 use Rattle.safl_calls.proofs.Apart.{delivers_runs, idle_delivers, idle_runs, runs_delivers}
 
 pub record Fits (C : Program) (s : State) : Type 0 where

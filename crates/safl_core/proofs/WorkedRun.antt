@@ -1,13 +1,11 @@
 -- A whole run with a group of functions, by computation.
+use Rattle.safl_core.proofs.Common.{Program, Word, listed}
 use Rattle.std.proofs.Common.{◌≡◌, ℕ, List, [], ◌∷◌, cond, ◌==◌, nat_lt, refl}
-use Rattle.safl_word.specs.Words.{Word}
 use Rattle.safl_word.specs.declared.primitive.Primitive.TheVariants.{Eq, Sub}
 use Rattle.safl_term.specs.Terms.{Term, Terms, Const, Var, Op, If, Call, Loop, Nil, Cons}
-use Rattle.safl_term.specs.Program.{Program}
 use Rattle.safl_term.specs.Readiness.{Returned, answer, wanted}
 use Rattle.safl_calls.specs.Machine.{Event, Accept, Finish, Return, LoopInto, opening, after_event}
 use Rattle.safl_calls.specs.Picks.{picks}
-use Rattle.safl_core.specs.Listing.{listed}
 
 abbrev byte : ℕ → Word
 byte n = record { width = 8; bits = n }

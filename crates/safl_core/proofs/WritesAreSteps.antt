@@ -1,18 +1,13 @@
 -- Writes of modes and stages, as steps of the state.
+use Rattle.safl_core.proofs.Common.{IsSpan, Program, Span, fun_ext, idle_mode, mode_of, stage_at, stage_of, unit_at}
 use Rattle.std.proofs.Common.{◌≡◌, ◌≢◌, ℕ, zero, suc, ◌+◌, ◌<◌, ◌≤◌, Bool, true, false, List, length, cond, eqb, slice_set, refl, sym, ap, ◌∙◌, subst, ⊎_elim, arith}
-use Rattle.std.proofs.Math.Path.{fun_ext}
 use Rattle.std.proofs.lemmas.Bool.{cases_eq, eq-eqb, ne_eqb, cases_lt}
 use Rattle.std.proofs.lemmas.List.{get_or-set_other, get_or-set_same, get_or_past}
-use Rattle.safl_term.specs.Program.{Program}
 use Rattle.safl_term.specs.Readiness as plain
 use Rattle.safl_calls.specs.Machine as core
 use Rattle.safl_calls.specs.Machine.{State, put, ended}
 use Rattle.safl_core.specs.declared.mode.Mode as modes_declared
 use Rattle.safl_evaluate.specs.declared.stage.Stage as stages_declared
-use Rattle.safl_core.specs.Modes.{idle_mode, mode_of, unit_at}
-use Rattle.safl_core.specs.Spans.{IsSpan}
-use Rattle.safl_evaluate.specs.Stages.{stage_of, stage_at}
-use Rattle.safl_core.specs.declared.spans.Span.{Span}
 
 pub unit_put : (modes : List modes_declared.Mode) (u : ℕ) (m : modes_declared.Mode) → u < length modes → unit_at (slice_set modes u m) ≡ put (unit_at modes) u (mode_of m)
 unit_put modes u m lt = fun_ext (λ v. ⊎_elim (λ same. at v same) (λ other. off v other) (cases_eq u v))

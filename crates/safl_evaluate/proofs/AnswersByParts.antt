@@ -1,19 +1,14 @@
 -- What a term comes to and wants, by its parts.
+use Rattle.safl_evaluate.proofs.Common.{Primitive, false≢true, nodes_in, pick_other, shown_term, shown_terms, some_none}
 use Rattle.std.proofs.Common.{◌≡◌, ℕ, zero, suc, ◌+◌, ◌<◌, ◌≤◌, List, [], ◌∷◌, ◌++◌, length, take, drop, cond, Option, Some, None, Bool, true, IsTrue, slice_get}
 use Rattle.std.proofs.Common.{false, get_or, slice_set, refl, sym, ap, ◌∙◌, subst, arith, add-one}
-use Rattle.std.proofs.lemmas.Bool.{false≢true}
 use Rattle.std.proofs.lemmas.List.{drop-set, get_or-take, get_or_read, length-take, take-take}
 use Rattle.std.proofs.Math.Seq.{take-add}
-use Rattle.safl_term.specs.Sizes.{nodes_in}
 use Rattle.safl_word.specs.Words.{Word, slot, pick, no_word}
-use Rattle.safl_word.specs.declared.primitive.Primitive.{Primitive}
-use Rattle.safl_word.proofs.Words.{pick_other}
 use Rattle.safl_word.proofs.Lists.{slice_set_here}
 use Rattle.safl_term.specs.Readiness.{Answer, Ready, LoopTo, NotYet, answer, answers, select, with_all, both, apply_to, loop_to, ready_from, word_of}
-use Rattle.safl_calls.proofs.Basics.{some_none}
 use Rattle.safl_term.specs.Terms.{Term, Const, Var, If, Let, Op, Call, Loop, Terms, Nil, Cons}
 use Rattle.safl_term.specs.declared.term.Term as declared
-use Rattle.safl_term.specs.Tree.{shown_term, shown_terms}
 use Rattle.safl_term.proofs.Once.{count}
 use Rattle.safl_term.proofs.PlainTerms.{loop_word, some_nodes}
 

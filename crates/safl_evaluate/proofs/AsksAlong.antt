@@ -1,9 +1,7 @@
 -- Sites are asked for one after the other.
+use Rattle.safl_evaluate.proofs.Common.{Asks, Wants, Word}
 use Rattle.std.proofs.Common.{◌≡◌, ℕ, List, Some, None, length, get_or, slice_set, min, max, refl, ap, ◌∙◌, arith}
 use Rattle.std.proofs.lemmas.List.{get_or-set_other, length-set}
-use Rattle.safl_word.specs.Words.{Word}
-use Rattle.safl_evaluate.specs.declared.wants.Wants.{Wants}
-use Rattle.safl_evaluate.specs.Asking.{Asks}
 
 pub asks_none : (v : Wants) → Asks v v
 asks_none v = record { long = refl; first = omega arith; last = omega arith; others = λ k no. refl }

@@ -1,17 +1,14 @@
 -- What is kept of a term, by its parts.
+use Rattle.safl_evaluate.proofs.Common.{Kept, nodes, nodes_in, pick_other, some_none}
 use Rattle.std.proofs.Common.{◌≡◌, ℕ, zero, suc, ◌+◌, ◌<◌, ◌≤◌, ◌⊎◌, List, ◌++◌, Option, Some, None, cond, eqb, is_some, get_or, inl, inr, refl, sym, ap, ◌∙◌, subst, ⊎_elim, arith}
 use Rattle.std.proofs.lemmas.Bool.{cases_eq, eq-eqb, ne_eqb}
 use Rattle.safl_word.specs.Words.{Word, pick}
-use Rattle.safl_word.proofs.Words.{pick_other}
 use Rattle.safl_term.specs.Readiness.{Answer, Ready, LoopTo, NotYet, answer, answers, wanted, wanted_in, word_of, or_else, select, with_all}
-use Rattle.safl_term.specs.Sizes.{nodes, nodes_in}
 use Rattle.safl_term.specs.Standing.{Stands, StandsIn}
 use Rattle.safl_term.specs.Terms.{Term, Const, Var, Op, If, Let, Call, Loop, Terms, Nil, Cons}
 use Rattle.safl_term.proofs.Once.{Once, OnceIn}
 use Rattle.safl_term.proofs.OrElse.{with_none}
-use Rattle.safl_calls.proofs.Basics.{some_none}
 use Rattle.safl_calls.proofs.Locality.{answer_local, all_local}
-use Rattle.safl_evaluate.specs.declared.kept.Kept.{Kept}
 use Rattle.safl_evaluate.specs.Keeping.{cell, SelectsFirst, SelectsSecond, IsCell, Below, BelowIn}
 use Rattle.safl_evaluate.proofs.PlainByParts.{stands_not_body}
 use Rattle.safl_evaluate.proofs.RunsByParts.{not_wanted, not_wanted_in}

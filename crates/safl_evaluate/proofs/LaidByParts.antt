@@ -1,13 +1,8 @@
 -- Where the nodes of a term lie, by its parts.
+use Rattle.safl_evaluate.proofs.Common.{Place, Primitive, Word, get_or-set_other, get_or-set_same, nodes, nodes_in, some_nodes}
 use Rattle.std.proofs.Common.{◌≡◌, ℕ, ◌+◌, ◌<◌, ◌≤◌, ◌⊎◌, List, length, Bool, true, false, ◌&&◌, slice_set, inl, inr, sym, ap, ◌∙◌, subst, ⊎_elim, arith}
-use Rattle.std.proofs.lemmas.List.{get_or-set_other, get_or-set_same}
-use Rattle.safl_word.specs.Words.{Word}
-use Rattle.safl_word.specs.declared.primitive.Primitive.{Primitive}
-use Rattle.safl_term.specs.Sizes.{nodes, nodes_in}
 use Rattle.safl_term.specs.Standing.{Stands, StandsIn}
 use Rattle.safl_term.specs.Terms.{Term, Const, Var, Op, If, Let, Call, Loop, Terms, Nil, Cons}
-use Rattle.safl_term.proofs.PlainTerms.{some_nodes}
-use Rattle.safl_evaluate.specs.declared.places.Place.{Place}
 use Rattle.safl_evaluate.specs.Laying.{nowhere, place, IsPlace, IsRoom, Laid, LaidIn, LaidBelow, SameOutside, Covers}
 
 -- ---- the same places

@@ -1,3 +1,4 @@
+mod Common
 pub mod Refilled
 pub mod RunsByParts
 pub mod AnswersByParts

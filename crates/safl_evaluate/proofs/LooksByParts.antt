@@ -1,30 +1,21 @@
 -- Terms are looked at part by part.
+use Rattle.safl_evaluate.proofs.Common.{Kept, Place, Primitive, Stage, Word, back_at, false≢true, nodes, nodes_in, same_Some, some_none}
 use Rattle.std.proofs.Common.{◌≡◌, ℕ, ◌+◌, ◌<◌, ◌≤◌, ◌⊎◌, List, ◌++◌, length, take, Option, Some, None, Bool, true, false, cond, eqb, is_some, get_or}
 use Rattle.std.proofs.Common.{slice_set, inl, inr, refl, sym, ap, ◌∙◌, subst, arith}
-use Rattle.std.proofs.lemmas.Bool.{false≢true}
 use Rattle.std.proofs.lemmas.List.{get_or-set_other}
-use Rattle.std.proofs.lemmas.Option.{same_Some}
-use Rattle.safl_word.specs.Words.{Word}
-use Rattle.safl_word.specs.declared.primitive.Primitive.{Primitive}
 use Rattle.safl_term.specs.Readiness.{Answer, Ready, LoopTo, NotYet, answer, answers, word_of}
-use Rattle.safl_term.specs.Sizes.{nodes, nodes_in}
 use Rattle.safl_term.specs.Standing.{Stands, StandsIn}
 use Rattle.safl_term.specs.Terms.{Term, Op, If, Let, Call, Loop, Terms, Cons}
 use Rattle.safl_term.proofs.Once.{Once, OnceIn}
 use Rattle.safl_term.proofs.PlainTerms.{ready_word, some_nodes}
 use Rattle.safl_term.proofs.Apart.{ready_not_yet}
 use Rattle.safl_term.proofs.Widths.{ready_is}
-use Rattle.safl_calls.proofs.Basics.{some_none}
 use Rattle.safl_calls.proofs.Bodies.{answer_grows, all_grows}
 use Rattle.safl_evaluate.specs.declared.kept.Kept as code
-use Rattle.safl_evaluate.specs.declared.kept.Kept.{Kept}
-use Rattle.safl_evaluate.specs.declared.places.Place.{Place}
-use Rattle.safl_evaluate.specs.declared.stage.Stage.{Stage}
 use Rattle.safl_evaluate.specs.Evaluating.{Unasked, UnaskedIn}
 use Rattle.safl_evaluate.specs.Keeping.{is_open, cell, SelectsFirst, SelectsSecond, Below, BelowIn, Holds, without, Stood, StoodIn, IsAnew, Only, MayLook, MayLookAll, Finds, FindsAll}
 use Rattle.safl_evaluate.specs.Laying.{place, LaidIn, LaidBelow}
 use Rattle.safl_evaluate.specs.Plain.{plain_term, plain_body, CanCompute, CanConclude}
-use Rattle.safl_evaluate.specs.Stages.{back_at}
 use Rattle.safl_evaluate.proofs.HeldByParts.{holds_frame, below_in_frame}
 use Rattle.safl_evaluate.proofs.PlainByParts.{stands_not_body, not_body}
 use Rattle.safl_evaluate.proofs.RunsByParts as may

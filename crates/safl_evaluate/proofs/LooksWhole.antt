@@ -1,29 +1,21 @@
 -- What is found of a term, by what is found of its parts.
+use Rattle.safl_evaluate.proofs.Common.{Kept, Place, Primitive, Stage, Word, back_at, nodes, nodes_in, same_Some, some_none}
 use Rattle.std.proofs.Common.{◌≡◌, ℕ, ◌+◌, ◌<◌, ◌≤◌, List, [], ◌∷◌, ◌++◌, length, take, Option, Some, None, Bool, true, false, cond, is_some, get_or}
 use Rattle.std.proofs.Common.{slice_set, inl, inr, refl, sym, ap, ◌∙◌, subst, arith}
 use Rattle.std.proofs.lemmas.Bool.{ne_eqb, false≢true}
 use Rattle.std.proofs.lemmas.List.{get_or-set_other, get_or-set_same}
-use Rattle.std.proofs.lemmas.Option.{same_Some}
-use Rattle.safl_word.specs.Words.{Word}
-use Rattle.safl_word.specs.declared.primitive.Primitive.{Primitive}
 use Rattle.safl_term.specs.Readiness.{Answer, Ready, LoopTo, NotYet, answer, answers, word_of, apply_to, select, with_all}
-use Rattle.safl_term.specs.Sizes.{nodes, nodes_in}
 use Rattle.safl_term.specs.Standing.{Stands, StandsIn}
 use Rattle.safl_term.specs.Terms.{Term, Const, Var, Op, If, Let, Call, Loop, Terms, Nil, Cons}
 use Rattle.safl_term.proofs.Once.{Once, OnceIn}
 use Rattle.safl_term.proofs.PlainTerms.{shown_call}
-use Rattle.safl_calls.proofs.Basics.{some_none}
 use Rattle.safl_calls.proofs.Locality.{all_local}
 use Rattle.safl_evaluate.specs.declared.kept.Kept as code
-use Rattle.safl_evaluate.specs.declared.kept.Kept.{Kept}
 use Rattle.safl_evaluate.specs.declared.kept.Found as found
-use Rattle.safl_evaluate.specs.declared.places.Place.{Place}
-use Rattle.safl_evaluate.specs.declared.stage.Stage.{Stage}
 use Rattle.safl_evaluate.specs.Finding.{cell_of, if_open, if_ready, is_ready}
 use Rattle.safl_evaluate.specs.Keeping.{word_kept, is_open, cell, SelectsFirst, SelectsSecond, IsCell, Below, BelowIn, Holds, without, Stood, Only}
 use Rattle.safl_evaluate.specs.Keeping.{MayLook, MayLookAll, opened_with, Looks, Finds, FindsAll}
 use Rattle.safl_evaluate.specs.Plain.{plain_term, plain_body, ComesTo, ConcludesIn}
-use Rattle.safl_evaluate.specs.Stages.{back_at}
 use Rattle.safl_evaluate.proofs.AnswersByParts as step
 use Rattle.safl_evaluate.proofs.HeldByParts.{holds_local, below_frame, below_in_local}
 use Rattle.safl_evaluate.proofs.PlainByParts.{two_words, concludes_word, plain_is_body}

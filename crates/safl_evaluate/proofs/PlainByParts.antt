@@ -1,20 +1,17 @@
 -- Plain terms, by their parts.
+use Rattle.safl_evaluate.proofs.Common.{Primitive, back_at, nodes, some_none}
 use Rattle.std.proofs.Common.{◌≡◌, ℕ, suc, ◌+◌, ◌<◌, ◌≤◌, List, [], ◌∷◌, ◌++◌, length, take, drop, Option, Some, Bool, true, false, ◌&&◌, slice_set, refl, sym, ap, ◌∙◌, subst, ⊎_elim, arith}
 use Rattle.std.proofs.lemmas.Bool.{and_parts, and_from, and_left, and_right, false≢true}
 use Rattle.std.proofs.lemmas.List.{append-nil, append_assoc, drop-set, length_push}
 use Rattle.safl_word.specs.Words.{Word, slot}
 use Rattle.safl_word.specs.Primitives.{apply_prim}
-use Rattle.safl_word.specs.declared.primitive.Primitive.{Primitive}
 use Rattle.safl_term.specs.Readiness.{NotYet, Answer, Ready, LoopTo, apply_to, word_of}
-use Rattle.safl_term.specs.Sizes.{nodes}
 use Rattle.safl_term.specs.Standing.{Stands, StandsIn}
 use Rattle.safl_term.specs.Terms.{Term, Const, Var, Op, If, Let, Call, Loop, Terms, Nil, Cons}
 use Rattle.safl_term.proofs.Apart.{loop_not_yet, ready_not_yet}
-use Rattle.safl_calls.proofs.Basics.{some_none}
 use Rattle.safl_evaluate.specs.Answers.{passed_on, HasRoom}
 use Rattle.safl_evaluate.specs.Keeping.{IsAnew}
 use Rattle.safl_evaluate.specs.Plain.{plain_term, plain_terms, plain_body, ComesTo, ComeTo, ConcludesIn, PassesOn, PassesOne, CanCompute, CanComputeAll, CanConclude}
-use Rattle.safl_evaluate.specs.Stages.{back_at}
 use Rattle.safl_evaluate.proofs.AnswersByParts as step
 use Rattle.safl_evaluate.proofs.RunsByParts as may
 use Rattle.safl_evaluate.proofs.RunsByParts.{can_is, can_all_is}

@@ -1,12 +1,10 @@
 -- The plan of a program, body after body.
+use Rattle.safl_evaluate.proofs.Common.{Laid, Place, SameOutside, get_or-set_other, get_or-set_same}
 use Rattle.std.proofs.Common.{◌≡◌, ℕ, suc, ◌+◌, ◌<◌, ◌≤◌, ◌⊎◌, List, length, get_or, slice_set, inl, inr, refl, sym, ap, subst, ⊎_elim, arith}
 use Rattle.std.proofs.lemmas.Bool.{cases_lt}
-use Rattle.std.proofs.lemmas.List.{get_or-set_other, get_or-set_same}
 use Rattle.safl_term.specs.Checked.{CheckedProgram, IsChecked}
 use Rattle.safl_term.proofs.HeldByChecked.{nodes_rise}
 use Rattle.safl_term.specs.Sizes.{nodes, body_nodes}
-use Rattle.safl_evaluate.specs.declared.places.Place.{Place}
-use Rattle.safl_evaluate.specs.Laying.{Laid, SameOutside}
 use Rattle.safl_evaluate.proofs.LaidByParts.{laid_still}
 
 pub before_next : (c : CheckedProgram) (f : ℕ) → body_nodes c.program (suc f) ≡ body_nodes c.program f + nodes (c.program.body f)

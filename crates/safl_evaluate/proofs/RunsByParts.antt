@@ -1,9 +1,9 @@
 -- What may be evaluated, by the parts of a term.
+use Rattle.safl_evaluate.proofs.Common.{Primitive, Stage, back_at, some_none}
 use Rattle.std.proofs.Common.{◌≡◌, ℕ, suc, ◌<◌, ◌≤◌, List, [], ◌∷◌, ◌++◌, length, Option, Some, None, false, is_some, get_or, inl, inr, refl, sym, ap, ◌∙◌, subst, arith}
 use Rattle.std.specs.Prelude.{IsSome}
 use Rattle.std.proofs.lemmas.Option.{slice_get_within}
 use Rattle.safl_word.specs.Words.{Word, widths}
-use Rattle.safl_word.specs.declared.primitive.Primitive.{Primitive}
 use Rattle.safl_word.specs.declared.primitive.Primitive.TheVariants.{Add, Sub, Mul, And, Or, Xor, Not, Eq, Ne, Lt, Le, Gt, Ge, Shl, Shr, Cat, Bits, Ext}
 use Rattle.safl_word.specs.Primitives.{result_width, one_width, two_widths}
 use Rattle.safl_term.specs.Program.{Program}
@@ -17,9 +17,6 @@ use Rattle.safl_term.proofs.Places.{fits_le, fits_all_le}
 use Rattle.safl_term.proofs.Widths.{answers_widths, widths_append}
 use Rattle.safl_term.proofs.OrElse.{neither}
 use Rattle.safl_calls.proofs.Bodies.{wanted_stands, wanted_stands_in}
-use Rattle.safl_calls.proofs.Basics.{some_none}
-use Rattle.safl_evaluate.specs.declared.stage.Stage.{Stage}
-use Rattle.safl_evaluate.specs.Stages.{back_at}
 use Rattle.safl_evaluate.specs.Evaluating.{CanRun, CanRunAll, Unasked, UnaskedIn, Notes}
 
 pub can_is : {S : List Stage} {n m : ℕ} {E F : List Word} {t u : Term} → n ≡ m → E ≡ F → t ≡ u → CanRun S n E t → CanRun S m F u

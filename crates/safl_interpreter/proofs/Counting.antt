@@ -1,10 +1,9 @@
 -- The account of an evaluation, by the meaning of programs.
+use Rattle.safl_interpreter.proofs.Common.{Program, Word}
 use Rattle.std.proofs.Common.{◌≡◌, ℕ, zero, suc, ◌+◌, ◌<◌, ◌≤◌, List, [], ◌∷◌, ◌++◌, length, get_or, Bool, true, false, cond, ◌⊎◌, inl, inr, ⊎_elim, eq-eqb, refl, sym, ap, ◌∙◌, subst, arith}
 use Rattle.std.proofs.lemmas.Bool.{eqb-true}
 use Rattle.std.specs.Prelude.{max, set, ◌==◌}
 use Rattle.std.proofs.lemmas.List.{length-set, length-append}
-use Rattle.safl_word.specs.Words.{Word}
-use Rattle.safl_term.specs.Program.{Program}
 use Rattle.safl_term.specs.Terms.{Term, Terms}
 use Rattle.safl_term.specs.Meaning.{Gives, gives_const, gives_var, gives_op, gives_if, gives_let, gives_call, gives_loop, GivesAll, gives_nil, gives_cons}
 use Rattle.safl_term.specs.Meaning.{cost, costs, loops, loops_all, calls_to, calls_all, at_function}

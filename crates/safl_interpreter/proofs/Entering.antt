@@ -1,10 +1,7 @@
 -- A term begins, as a word or as its parts.
+use Rattle.safl_interpreter.proofs.Common.{Primitive, Program, Word, apply_prim, slot, widths}
 use Rattle.std.proofs.Common.{◌≡◌, ℕ, zero, suc, ◌<◌, List, [], ◌∷◌, length, Some, true, false, refl, sym, ap, ◌∙◌, subst, arith}
 use Rattle.std.specs.Prelude.{slice_get}
-use Rattle.safl_word.specs.Words.{Word, slot, widths}
-use Rattle.safl_word.specs.Primitives.{apply_prim}
-use Rattle.safl_word.specs.declared.primitive.Primitive.{Primitive}
-use Rattle.safl_term.specs.Program.{Program}
 use Rattle.safl_term.specs.Terms.{Term, Const, Var, If, Let, Op, Call, Loop, Terms, Nil, Cons}
 use Rattle.safl_term.specs.Meaning.{gives_const, gives_var, gives_op, gives_if, gives_let, gives_call, gives_loop, gives_nil, gives_cons}
 use Rattle.safl_interpreter.specs.Accounts.{Account}

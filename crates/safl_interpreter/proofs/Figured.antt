@@ -1,15 +1,12 @@
 -- The figures that come out are those of an evaluation of main.
+use Rattle.safl_interpreter.proofs.Common.{Figures, HasWidth, IsWellFormed, Program, Word, figures, widths}
 use Rattle.std.proofs.Common.{◌≡◌, ℕ, zero, suc, ◌-◌, ◌<◌, ◌≤◌, List, [], ◌∷◌, ◌++◌, length, get_or, Some, Bool, true, false, ⊎_elim, inr, refl, sym, ap, ◌∙◌, subst, arith}
 use Rattle.std.specs.Prelude.{slice_get, ◌↔◌, ◌≢◌}
 use Rattle.std.proofs.Math.ListN.{replicate}
 use Rattle.std.proofs.lemmas.List.{length-append, length-replicate}
-use Rattle.safl_word.specs.Words.{Word, widths}
-use Rattle.safl_term.specs.Program.{Program}
 use Rattle.safl_term.specs.Meaning.{Main, main_cost, main_calls, loops, calls_to, at_function}
-use Rattle.safl_term.specs.WellFormed.{HasWidth, IsWellFormed}
 use Rattle.safl_calls.specs.Span.{main_span}
 use Rattle.safl_interpreter.specs.Accounts.{Account, opening, counted, ready}
-use Rattle.safl_interpreter.specs.Comes.{Figures, figures}
 use Rattle.safl_interpreter.specs.Measured.{AreCalled, IsTimed}
 use Rattle.safl_interpreter.specs.Rounds.{IsState, Ends}
 use Rattle.safl_interpreter.specs.Turns.{Frame, Turn, Enter}

@@ -1,16 +1,12 @@
 -- The words of all parts are known, and the term goes on.
+use Rattle.safl_interpreter.proofs.Common.{HasWidth, IsWellFormed, Primitive, Program, apply_prim, widths_append}
 use Rattle.std.proofs.Common.{◌≡◌, ℕ, zero, suc, ◌+◌, ◌<◌, ◌≤◌, List, [], ◌∷◌, ◌++◌, length, Bool, true, false, refl, sym, ap, ◌∙◌, subst, arith}
 use Rattle.std.proofs.lemmas.List.{append-nil, length-set}
 use Rattle.safl_word.specs.Words.{Word, slot, choose, pick, widths}
-use Rattle.safl_word.specs.Primitives.{apply_prim}
 use Rattle.safl_word.proofs.Widths.{apply_width}
-use Rattle.safl_word.specs.declared.primitive.Primitive.{Primitive}
-use Rattle.safl_term.specs.Program.{Program}
 use Rattle.safl_term.specs.Terms.{Term, Terms, Nil}
 use Rattle.safl_term.specs.Meaning.{gives_nil}
 use Rattle.safl_term.specs.Sizes.{nodes}
-use Rattle.safl_term.specs.WellFormed.{HasWidth, IsWellFormed}
-use Rattle.safl_term.proofs.Widths.{widths_append}
 use Rattle.safl_interpreter.specs.Accounts.{Account, booked, cycles, one_if}
 use Rattle.safl_interpreter.specs.Turns.{Then, Choose, Bind, Operate, Apply, Frame, Turn, Enter, Within, Leave}
 use Rattle.safl_interpreter.specs.Comes.{Comes, Returns, Figures, Finishes}

@@ -1,11 +1,9 @@
 -- A round leads from a state to one that comes to the same figures.
+use Rattle.safl_interpreter.proofs.Common.{Program, Word, choose, shown_terms, slot, widths, widths_append}
 use Rattle.std.proofs.Common.{◌≡◌, ℕ, ◌*◌, ◌<◌, ◌≤◌, List, [], ◌∷◌, ◌++◌, length, true, false, append_assoc, refl, sym, ap, ◌∙◌, subst, arith}
 use Rattle.std.specs.Prelude.{max}
-use Rattle.safl_word.specs.Words.{Word, slot, choose, widths}
-use Rattle.safl_term.specs.Program.{Program}
 use Rattle.safl_term.specs.Terms.{Term, Terms, Nil, Cons}
 use Rattle.safl_term.specs.Meaning.{Gives, gives_const, gives_var, gives_op, gives_if, gives_let, gives_call, gives_loop, GivesAll, gives_nil, gives_cons}
-use Rattle.safl_term.proofs.Widths.{widths_append}
 use Rattle.safl_interpreter.specs.Accounts.{Account, booked, counted, counted_all, ready, ready_all}
 use Rattle.safl_interpreter.specs.Turns.{Then, Choose, Bind, Operate, Apply, Frame, Turn, Enter, Within, Leave, with_word, applies, shown_frame}
 use Rattle.safl_interpreter.specs.Comes.{Returns, Figures, figures, Evaluates, Finishes}
@@ -13,7 +11,6 @@ use Rattle.safl_interpreter.specs.Sound.{Fits, FitsFrame, FitsTurn, FitFrames, I
 use Rattle.safl_interpreter.specs.Rounds.{IsState, IsNext, Ends, shown_stack}
 use Rattle.safl_interpreter.specs.declared.frame.Frame as declared
 use Rattle.safl_term.specs.declared.term.Term as term
-use Rattle.safl_term.specs.Tree.{shown_terms}
 use Rattle.safl_interpreter.proofs.Finishing.{ended, ended_in}
 
 -- ---- a step

@@ -1,13 +1,11 @@
 -- How far terms are alike, by their parts.
+use Rattle.safl_labels.proofs.Common.{Apart, Likeness, Primitive, SameTime, SameWord}
 use Rattle.std.proofs.Common.{◌≡◌, Result, Ok, Err, ℕ, List, [], ◌∷◌, ◌++◌, Bool, true, false, refl, sym, ap, subst, ◌∙◌}
 use Rattle.std.proofs.lemmas.Bool.{false≢true}
 use Rattle.std.proofs.Math.Bool.{beq}
 use Rattle.std.specs.Result.{IfOk}
-use Rattle.safl_word.specs.declared.primitive.Primitive.{Primitive}
 use Rattle.safl_calls.specs.Labels.{Labels, label, all_public, Twins, t_const, t_var, t_plain, t_op, t_if, t_choose, t_left, t_right, t_let, t_call, t_loop, AllTwins, t_nil, t_cons, IsPlainTerm}
 use Rattle.safl_term.specs.Terms.{Term, Terms, Var, Op, If, Let, Call, Loop}
-use Rattle.safl_labels.specs.declared.likeness.Likeness.{Likeness}
-use Rattle.safl_labels.specs.declared.likeness.Likeness.TheVariants.{Apart, SameTime, SameWord}
 use Rattle.safl_labels.specs.Likeness.{IsLike, least_of, or_time_of, suffices_for, same_if, do_fit, passed_of}
 
 -- terms that give the same word take the same time

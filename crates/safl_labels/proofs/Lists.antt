@@ -1,13 +1,9 @@
 -- Lists of terms that are alike, one by one.
+use Rattle.safl_labels.proofs.Common.{Apart, Likeness, SameTime, SameWord, nodes, nodes_in, shown_term, shown_terms, true≢false}
 use Rattle.std.proofs.Common.{◌≡◌, ℕ, zero, suc, ◌+◌, ◌≤◌, List, [], ◌∷◌, ◌++◌, Some, slice_get, take, Bool, true, false, sym, ap, subst, arith, add-one}
-use Rattle.std.proofs.lemmas.Bool.{true≢false}
 use Rattle.safl_calls.specs.Labels.{Labels, Twins, AllTwins, t_nil, t_cons}
 use Rattle.safl_term.specs.declared.term.Term.{Term}
-use Rattle.safl_term.specs.Sizes.{nodes, nodes_in}
 use Rattle.safl_term.specs.Terms as plain
-use Rattle.safl_term.specs.Tree.{shown_term, shown_terms}
-use Rattle.safl_labels.specs.declared.likeness.Likeness.{Likeness}
-use Rattle.safl_labels.specs.declared.likeness.Likeness.TheVariants.{Apart, SameTime, SameWord}
 use Rattle.safl_labels.specs.Likeness.{IsLike, is_word_of, is_apart_of}
 
 pub node_at : (ts : List Term) (i : ℕ) (x : Term) → slice_get ts i ≡ Some x → nodes (shown_term x) ≤ nodes_in (shown_terms ts)

@@ -1,8 +1,7 @@
 -- The widths of the inputs other than `start`, one signal after the other.
+use Rattle.safl_net.proofs.Common.{Netlist, Signal, get_some, width_in, width_of}
 use Rattle.std.proofs.Common.{◌≡◌, ℕ, zero, suc, ◌+◌, ◌<◌, ◌≤◌, List, [], ◌∷◌, ◌++◌, length, drop, Some, Bool, true, false, cond, slice_get, refl, sym, ap, ◌∙◌, arith, append_assoc}
 use Rattle.std.proofs.lemmas.List.{append-nil, drop_all}
-use Rattle.safl_word.proofs.Lists.{get_some}
-use Rattle.safl_net.specs.Netlist.{Netlist, Signal, width_in, width_of}
 use Rattle.safl_net.specs.Making.{kind_at, name_at, kind_in, name_in}
 use Rattle.safl_net.specs.Runs.{is_argument}
 use Rattle.safl_net.specs.Arguments.{argument_widths}

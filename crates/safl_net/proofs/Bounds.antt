@@ -1,18 +1,9 @@
 -- The width of an operation's word is 1 to 128, where its operands' widths are.
+use Rattle.safl_net.proofs.Common.{Apply, Const, Copy, Ext, HasWord, IsNetlist, Mux, Netlist, Op, Primitive, Signal, apply_fits}
+use Rattle.safl_net.proofs.Common.{apply_width, op_width, prim_width, result_width, signal_widths, width_in}
 use Rattle.std.proofs.Common.{◌≡◌, ℕ, zero, suc, ◌<◌, ◌≤◌, List, [], ◌∷◌, map, length, All, Option, Some, None, Bool, true, false, cond, ◌==◌, ◌&&◌, slice_get, refl, ap, subst, ◌∙◌, arith}
 use Rattle.std.proofs.lemmas.Nat.{pow_pos}
 use Rattle.safl_word.specs.Words.{Word, AreWords}
-use Rattle.safl_word.specs.Primitives.{result_width}
-use Rattle.safl_word.specs.declared.primitive.Primitive.{Primitive}
-use Rattle.safl_word.specs.declared.primitive.Primitive.TheVariants.{Ext}
-use Rattle.safl_word.proofs.Widths.{apply_width}
-use Rattle.safl_word.proofs.Fits.{apply_fits}
-use Rattle.safl_net.specs.declared.cell.Op.{Op}
-use Rattle.safl_net.specs.declared.cell.Op.TheVariants.{Const, Copy, Mux, Apply}
-use Rattle.safl_net.specs.Netlist.{Netlist, Signal, width_in}
-use Rattle.safl_net.specs.Widths.{op_width, prim_width, HasWord}
-use Rattle.safl_net.specs.Making.{signal_widths}
-use Rattle.safl_net.specs.Rules.{IsNetlist}
 
 pub record IsWidth (w : ℕ) : Type 0 where
   pub some : 1 ≤ w

@@ -1,20 +1,11 @@
 -- The word of a cell.
+use Rattle.safl_net.proofs.Common.{Apply, CellFits, Const, Copy, Ext, HasWord, IsNetlist, Mux, Op, Primitive, apply_fits, apply_width}
+use Rattle.safl_net.proofs.Common.{nat_tests, op_width, prim_width, result_width, signal_widths}
 use Rattle.std.proofs.Common.{◌≡◌, ℕ, zero, suc, List, [], ◌∷◌, map, Some, None, Bool, true, false, cond, ◌==◌, ◌&&◌, slice_get, slice_index, refl, sym, ap, subst, ◌∙◌, arith}
-use Rattle.std.proofs.lemmas.Bool.Decides.{nat_tests}
 use Rattle.safl_word.specs.Words.{Word, IsWord, AreWords, pick}
-use Rattle.safl_word.specs.Primitives.{result_width}
-use Rattle.safl_word.specs.declared.primitive.Primitive.{Primitive}
-use Rattle.safl_word.specs.declared.primitive.Primitive.TheVariants.{Ext}
-use Rattle.safl_word.proofs.Widths.{apply_width}
-use Rattle.safl_word.proofs.Fits.{apply_fits}
 use Rattle.safl_word.proofs.Words.{word_eq}
-use Rattle.safl_net.specs.declared.cell.Op.{Op}
-use Rattle.safl_net.specs.declared.cell.Op.TheVariants.{Const, Copy, Mux, Apply}
 use Rattle.safl_net.specs.Netlist.{Netlist, Signal, Kind, Input, Reg, Wire, Cell, width_in, width_of}
 use Rattle.safl_net.specs.Valuations.{Valuation, cell_word, signal_word, Holds, Fits}
-use Rattle.safl_net.specs.Widths.{op_width, prim_width, HasWord}
-use Rattle.safl_net.specs.Making.{signal_widths}
-use Rattle.safl_net.specs.Rules.{IsNetlist, CellFits}
 use Rattle.safl_net.specs.Growth.{KindHolds, Wired}
 
 abbrev pub word_widths : List Word → List ℕ

@@ -1,15 +1,13 @@
 -- Some valuation fits: each wire's number is computed from those of lower rank.
+use Rattle.safl_net.proofs.Common.{CellFits, IsNetlist, op_width, slice_get_within}
 use Rattle.std.proofs.Common.{◌≡◌, ℕ, zero, suc, ◌+◌, ◌<◌, ◌^◌, List, [], ◌∷◌, map, length, Option, Some, None, slice_get, slice_index, refl, sym, ap, subst, ◌∙◌, arith}
-use Rattle.std.proofs.lemmas.Option.{slice_get_within}
 use Rattle.safl_word.specs.Words.{Word, IsWord}
 use Rattle.safl_word.proofs.Lists.{get_some, index_get, map_at}
 use Rattle.safl_word.proofs.Words.{are_words}
 use Rattle.safl_word.proofs.Naturals.{below_power}
 use Rattle.safl_net.specs.Netlist.{Netlist, Signal, Kind, Input, Reg, Wire, Cell, IsSet, AllSet, width_in, width_of}
 use Rattle.safl_net.specs.Valuations.{Valuation, Holds, Fits, IsAcyclic, signal_word, cell_word}
-use Rattle.safl_net.specs.Widths.{op_width}
 use Rattle.safl_net.specs.Making.{signal_widths, kind_in, kind_at}
-use Rattle.safl_net.specs.Rules.{IsNetlist, CellFits}
 use Rattle.safl_net.specs.Laws.{FitWidths, HasInputs, OneFits, ExactlyOneValuation}
 use Rattle.safl_net.proofs.CellWords.{cell_width, cell_is_word, word_widths, cell_of_net}
 use Rattle.safl_net.proofs.OneValuation.{one_valuation}

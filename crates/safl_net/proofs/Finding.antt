@@ -1,15 +1,11 @@
 -- Names that are looked up.
+use Rattle.safl_net.proofs.Common.{Global, IsNetlist, Row, Sig, named_signal}
 use Rattle.std.proofs.Common.{◌≡◌, ℕ, zero, suc, ◌+◌, ◌<◌, List, [], ◌∷◌, length, get_or, position, Option, Some, None, Bool, true, false, cond, ◌||◌}
 use Rattle.std.proofs.Common.{is_some, String, string_bytes, bytes_eq, refl, sym, ap, ◌∙◌, arith, slice_get, IfSome}
-use Rattle.std.specs.declared.alloc.Global.{Global}
 use Rattle.std.specs.Map.{lookup, keys_of}
 use Rattle.std.proofs.lemmas.List.Quantifiers.{position-Some}
 use Rattle.safl_word.proofs.Lists.{bytes_flip}
-use Rattle.safl_net.specs.declared.cell.Sig.{Sig}
-use Rattle.safl_net.specs.declared.net.Row.{Row}
 use Rattle.safl_net.specs.Netlist.{Netlist, Signal, place, output_place}
-use Rattle.safl_net.specs.Names.{named_signal}
-use Rattle.safl_net.specs.Rules.{IsNetlist}
 use Rattle.safl_net.specs.Stored.{signals_of, outputs_of, number_of}
 use Rattle.safl_net.proofs.Tables.{signal_found}
 

@@ -1,15 +1,12 @@
 -- A net that grows.
+use Rattle.safl_net.proofs.Common.{Input, Kind, Netlist, Op, Reg, Sig, Signal, Wire, op_width, width_in, width_of}
 use Rattle.std.proofs.Common.{◌≡◌, ℕ, zero, suc, ◌+◌, ◌<◌, ◌≤◌, ◌^◌, List, [], ◌∷◌, ◌++◌, map, length, length-append, All, Option, Some, None, Result}
 use Rattle.std.proofs.Common.{Ok, Err, IfOk, OnOk, OnErr, IsSome, is_some, unwrap_or, slice_get, slice_index_or, refl, sym, ap, subst, ◌∙◌, arith}
 use Rattle.std.proofs.Common.{append_assoc}
 use Rattle.std.proofs.lemmas.List.{append-nil}
 use Rattle.safl_word.proofs.Lists.{get_end, get_front}
-use Rattle.safl_net.specs.declared.cell.Sig.{Sig}
-use Rattle.safl_net.specs.declared.cell.Op.{Op}
-use Rattle.safl_net.specs.Netlist.{Netlist, Signal, Kind, Input, Reg, Wire, width_in, width_of}
 use Rattle.safl_net.specs.Valuations.{cell_word}
 use Rattle.safl_net.specs.Names.{one_wire, wires}
-use Rattle.safl_net.specs.Widths.{op_width}
 use Rattle.safl_net.specs.Making.{with_signal, numbers, signal_widths, width_on, temporary}
 use Rattle.safl_net.specs.Growth.{Val, words, SignalHolds, Wired, maybe_width, width_at, Sized, HasCell, AreTemps, Grows}
 

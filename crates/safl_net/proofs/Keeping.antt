@@ -1,14 +1,11 @@
 -- What the makers keep of a netlist.
+use Rattle.safl_net.proofs.Common.{CellFits, HasWord, IsNetlist, KindFits, Op, Sig, SignalFits, op_width}
 use Rattle.std.proofs.Common.{◌≡◌, ℕ, zero, suc, ◌<◌, ◌≤◌, List, [], ◌∷◌, length, length-append, All, Some, None, true, false, ◌⊎◌, inl, inr}
 use Rattle.std.proofs.Common.{slice_get, slice_index_or, refl, sym, ap, subst, ◌∙◌, arith}
 use Rattle.safl_word.proofs.Lists.{get_in_front, get_pushed}
-use Rattle.safl_net.specs.declared.cell.Sig.{Sig}
-use Rattle.safl_net.specs.declared.cell.Op.{Op}
 use Rattle.safl_net.specs.Netlist.{Netlist, Signal, Kind, Input, Reg, Wire, Cell, width_in, width_of}
 use Rattle.safl_net.specs.Names.{is_good, has_name}
-use Rattle.safl_net.specs.Widths.{op_width, HasWord}
 use Rattle.safl_net.specs.Making.{with_signal, with_output, with_kind, set_kind, signal_widths, numbers, cell_on, width_on}
-use Rattle.safl_net.specs.Rules.{IsNetlist, SignalFits, KindFits, CellFits}
 use Rattle.safl_net.proofs.Naming.{unnamed}
 
 -- the first net's signals are in the second, with their widths

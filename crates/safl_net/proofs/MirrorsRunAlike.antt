@@ -1,8 +1,7 @@
 -- Runs with the same inputs show the same.
+use Rattle.safl_net.proofs.Common.{IsNetlist, IsTidy, is_temp, one_wire}
 use Rattle.std.proofs.Common.{◌≡◌, ℕ, List, [], ◌∷◌, map, Option, Some, false, slice_get, slice_index, sym, ap, subst, ◌∙◌}
 use Rattle.safl_net.specs.Netlist.{Netlist, Signal, Reg, AllSet}
-use Rattle.safl_net.specs.Names.{is_temp, one_wire, IsTidy}
-use Rattle.safl_net.specs.Rules.{IsNetlist}
 use Rattle.safl_net.specs.Valuations.{Valuation, Fits, IsAcyclic, Holds, reset_state, reset_number, kind_reset, next_state, read, read_next, next_at}
 use Rattle.safl_net.proofs.OneValuation.{one_valuation}
 use Rattle.safl_net.proofs.Reading.{read_word, place_of}

@@ -1,9 +1,7 @@
 -- Names that stand and names that don't.
+use Rattle.safl_net.proofs.Common.{Netlist, Signal, bytes_eq-Decides, has_name, named_output, named_signal}
 use Rattle.std.proofs.Common.{◌≡◌, ℕ, zero, suc, List, [], ◌∷◌, Some, Bool, true, false, ◌||◌, bytes_eq, slice_get, refl, subst}
-use Rattle.std.proofs.lemmas.Slice.Eq.{bytes_eq-Decides}
 use Rattle.std.proofs.lemmas.Bool.{or_parts}
-use Rattle.safl_net.specs.Netlist.{Netlist, Signal}
-use Rattle.safl_net.specs.Names.{named_signal, named_output, has_name}
 
 differ : (x y : List ℕ) → bytes_eq x y ≡ false → ¬ (x ≡ y)
 differ x y e f = absurd (let h = (bytes_eq-Decides x y).1 f in cc)

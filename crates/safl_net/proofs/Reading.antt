@@ -1,9 +1,8 @@
 -- What is read under a name, as the word of a signal.
+use Rattle.safl_net.proofs.Common.{IsNetlist, KindFits, bytes_eq-Decides}
 use Rattle.std.proofs.Common.{◌≡◌, ℕ, zero, suc, ◌+◌, List, [], ◌∷◌, Option, Some, Bool, true, false, cond, bytes_eq, slice_get, slice_index, refl, sym, ap, subst, ◌∙◌, arith}
-use Rattle.std.proofs.lemmas.Slice.Eq.{bytes_eq-Decides}
 use Rattle.safl_net.specs.Netlist.{Netlist, Signal, Reg, width_in, width_of, place, output_place}
-use Rattle.safl_net.specs.Valuations.{Valuation, Holds, Fits, signal_word, kind_reset, kind_next, reset_number, reset_state, next_number, next_state, number_at, read, read_output}
-use Rattle.safl_net.specs.Rules.{IsNetlist, KindFits}
+use Rattle.safl_net.specs.Valuations.{Valuation, Holds, Fits, signal_word, kind_next, next_number, next_state, number_at, read, read_output}
 
 -- ---- a name that stands once is found where it stands
 
@@ -59,11 +58,6 @@ next_number_of n v s init m g e is = ap (next_number v) e ∙ ap (kind_next v) i
 
 held : (n : Netlist) (state : ℕ → ℕ) (w : Valuation) (s init : ℕ) (next : Option ℕ) (g : Signal) → Fits n state w → slice_get n.signals s ≡ Some g → g.kind ≡ Reg init next → slice_index w s ≡ state s
 held n state w s init next g f e is = subst (λ k. Holds n w (state s) (slice_index w s) k) is (f.each s g e).1
-
--- a register has at reset its number at reset, and then the word that its next signal had
-pub reset_word : (n : Netlist) (w : Valuation) (s init : ℕ) (next : Option ℕ) (g : Signal) → Fits n (reset_state n) w → slice_get n.signals s ≡ Some g
-    → g.kind ≡ Reg init next → (signal_word n w s).bits ≡ init
-reset_word n w s init next g f e is = held n (reset_state n) w s init next g f e is ∙ ap reset_number e ∙ ap kind_reset is
 
 pub next_word : (n : Netlist) (v w : Valuation) (s init m : ℕ) (g : Signal) → IsNetlist n → Fits n (next_state n v) w → slice_get n.signals s ≡ Some g
     → g.kind ≡ Reg init (Some m) → signal_word n w s ≡ signal_word n v m

@@ -1,13 +1,9 @@
 -- What keeps a net settled.
+use Rattle.safl_net.proofs.Common.{Cell, Kind, Netlist, Op, Reg, Sig, Signal, Wire, get_pushed, slice_get_within}
 use Rattle.std.proofs.Common.{◌≡◌, ℕ, zero, suc, ◌+◌, ◌<◌, List, [], ◌∷◌, ◌++◌, length, Option, Some, None, Bool, true, false, cond, ◌==◌}
 use Rattle.std.proofs.Common.{inl, inr, slice_get, refl, sym, ap, subst, ◌∙◌, arith}
 use Rattle.std.proofs.lemmas.Bool.Decides.{Decides-eqb}
-use Rattle.std.proofs.lemmas.Option.{slice_get_within}
 use Rattle.std.proofs.lemmas.Bool.{cases_eq}
-use Rattle.safl_word.proofs.Lists.{get_pushed}
-use Rattle.safl_net.specs.declared.cell.Sig.{Sig}
-use Rattle.safl_net.specs.declared.cell.Op.{Op}
-use Rattle.safl_net.specs.Netlist.{Netlist, Signal, Kind, Reg, Wire, Cell}
 use Rattle.safl_net.specs.Making.{with_signal, with_output, with_kind, set_kind, numbers, cell_on, temporary, kind_in, kind_at}
 use Rattle.safl_net.specs.Growth.{HasCell, Grows}
 use Rattle.safl_net.specs.Settled.{IsDriven, IsDrivenIn, IsSteady, AreSteady, IsSettled, Settles}

@@ -1,20 +1,15 @@
 -- Kinds of signals.
+use Rattle.safl_net.proofs.Common.{IsNetlist, Mux, Op, Sig, get_some, op_width}
 use Rattle.std.proofs.Common.{[], Bool, Err, List, None, Ok, OnErr, OnOk, Option, Result, Some, ap, arith, cond, eq-eqb, inl, inr, length}
 use Rattle.std.proofs.Common.{length-append, map, nat_le, refl, slice_get, slice_index, subst, suc, sym, take, true, zero, ℕ, ◌&&◌, ◌+◌, ◌<◌, ◌==◌}
 use Rattle.std.proofs.Common.{◌||◌, ◌∙◌, ◌∷◌, ◌≡◌, ◌≤◌, ◌⊎◌}
 use Rattle.std.proofs.lemmas.Option.{same_Some}
 use Rattle.std.specs.Prelude.{option_map}
-use Rattle.safl_word.proofs.Lists.{get_some}
 use Rattle.safl_net.specs.Names.{IsTidy, is_part, is_start, is_temp, one_wire, temp_name, wires}
 use Rattle.safl_net.specs.Valuations.{kind_reset, reset_number}
 use Rattle.safl_net.specs.Netlist.{AllSet, Cell, Input, IsSet, Kind, Netlist, Reg, Signal, Wire}
 use Rattle.safl_net.specs.Making.{kind_at, kind_in, next_in, set_kind, sort_of, temporary, with_kind, with_signal}
-use Rattle.safl_net.specs.Widths.{op_width}
-use Rattle.safl_net.specs.declared.cell.Op.{Op}
-use Rattle.safl_net.specs.declared.cell.Op.TheVariants.{Mux}
-use Rattle.safl_net.specs.declared.cell.Sig.{Sig}
 use Rattle.safl_net.specs.declared.cell.SigKind.{SigKind}
-use Rattle.safl_net.specs.Rules.{IsNetlist}
 use Rattle.safl_net.proofs.Keeping.{Was, was}
 
 pub sort_wire_or_not : (k : Kind) → (sort_of k ≡ SigKind.Wire) ⊎ (¬ (sort_of k ≡ SigKind.Wire))

@@ -1,19 +1,14 @@
 -- The tables of a net.
+use Rattle.safl_net.proofs.Common.{Global, Input, IsNetlist, Kind, KindFits, Reg, Row, Sig, Signal, SignalFits, Wire, get_pushed}
 use Rattle.std.proofs.Common.{◌≡◌, ℕ, zero, suc, ◌+◌, ◌<◌, ◌≤◌, List, [], ◌∷◌, ◌++◌, length, Option, Some, None, Bool, true, false, cond, ◌||◌}
 use Rattle.std.proofs.Common.{is_some, slice_get, String, string_bytes, bytes_eq, refl, sym, ap, subst, ◌∙◌, arith, inl, inr}
-use Rattle.std.specs.declared.alloc.Global.{Global}
 use Rattle.std.specs.Map.{lookup, values_of}
 use Rattle.indexmap.specs.IndexMap.{set_value_at}
 use Rattle.std.proofs.lemmas.List.{map_push}
-use Rattle.safl_word.proofs.Lists.{get_pushed}
 use Rattle.safl_word.proofs.Options.{none_of}
-use Rattle.safl_net.specs.declared.cell.Sig.{Sig}
-use Rattle.safl_net.specs.declared.net.Row.{Row}
 use Rattle.safl_net.specs.declared.net.Driver.{Driver}
-use Rattle.safl_net.specs.Netlist.{Signal, Kind, Input, Reg, Wire}
 use Rattle.safl_net.specs.Names.{is_good, named_signal, named_output, has_name, one_wire, wires}
 use Rattle.safl_net.specs.Making.{set_kind}
-use Rattle.safl_net.specs.Rules.{IsNetlist, SignalFits, KindFits}
 use Rattle.safl_net.specs.Stored.{kind_of, signal_of, signals_of, outputs_of, net_of, ResetFits, KeepsNetlist}
 use Rattle.safl_net.proofs.Keeping.{push_kept, set_kept, output_kept}
 

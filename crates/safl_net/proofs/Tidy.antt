@@ -1,16 +1,12 @@
 -- Tidy nets, and names of temporaries.
+use Rattle.safl_net.proofs.Common.{Netlist, Signal, get_pushed, nat_tests, slice_get_within, with_output, with_signal}
 use Rattle.std.proofs.Common.{◌≡◌, ℕ, zero, suc, ◌+◌, ◌<◌, ◌≤◌, ◌^◌, ◌%◌, List, [], ◌∷◌, ◌++◌, length, take, decimal, Some, Result, Ok, Err, OnOk}
 use Rattle.std.proofs.Common.{OnErr, Bool, true, false, ◌||◌, ◌&&◌, ◌==◌, nat_le, inl, inr, slice_get, refl, sym, ap, subst, ◌∙◌, arith}
 use Rattle.std.proofs.lemmas.List.{take-append-le, take_at}
 use Rattle.std.proofs.lemmas.Fmt.{decimal_injective, decimal_by_steps, length-decimal-le}
-use Rattle.std.proofs.lemmas.Bool.Decides.{nat_tests}
-use Rattle.std.proofs.lemmas.Option.{slice_get_within}
 use Rattle.std.proofs.lemmas.Bool.{and_from}
-use Rattle.safl_word.proofs.Lists.{get_pushed}
 use Rattle.safl_word.proofs.Booleans.{all_three}
-use Rattle.safl_net.specs.Netlist.{Netlist, Signal}
 use Rattle.safl_net.specs.Names.{is_good, is_reserved, are_parts, is_part, is_start, is_temp, temp_name, has_name, one_wire, wires, IsTidy}
-use Rattle.safl_net.specs.Making.{with_signal, with_output}
 use Rattle.safl_net.proofs.Naming.{has_no_name}
 
 wires_before : (gs : List Signal) (s : ℕ) (g : Signal) → slice_get gs s ≡ Some g → wires (take s gs) + one_wire g.kind ≤ wires gs

@@ -1,9 +1,7 @@
 -- Inputs and registers of one name in two nets.
+use Rattle.safl_net.proofs.Common.{IsNetlist, IsTidy, flat_map, is_temp, one_wire}
 use Rattle.std.proofs.Common.{◌≡◌, ℕ, zero, suc, List, [], ◌∷◌, ◌++◌, map, length, Option, Some, None, Bool, true, false, slice_get, slice_index, refl, sym, ap, subst, ◌∙◌, inl, inr, arith}
-use Rattle.std.specs.List.{flat_map}
 use Rattle.safl_net.specs.Netlist.{Netlist, Signal, Kind, Input, Reg, Wire, with_input}
-use Rattle.safl_net.specs.Names.{is_temp, one_wire, IsTidy}
-use Rattle.safl_net.specs.Rules.{IsNetlist}
 use Rattle.safl_net.specs.Valuations.{Valuation, Holds, Fits, read}
 use Rattle.safl_net.proofs.Reading.{read_word}
 use Rattle.safl_net.specs.Mirrors.{Line, input_line, register_line, inputs_in, registers_in, IsCycle}

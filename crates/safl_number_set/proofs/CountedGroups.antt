@@ -1,4 +1,5 @@
 -- Numbers that are put in and taken out, and groups that are opened and closed.
+use Rattle.safl_number_set.proofs.Common.{AreSummed, AreSums, Follows, Groups, IsBeside, Shifts, Tally, part, shift_of}
 use Rattle.std.proofs.Common.{◌≡◌, ◌≢◌, ℕ, zero, suc, ◌+◌, ◌*◌, ◌/◌, ◌<◌, ◌≤◌, Bool, true, false, List, length, set, get_or, cond, refl, sym, ap, ◌∙◌, subst, ⊎_elim, arith, length-set}
 use Rattle.std.specs.Int.{from_bool}
 use Rattle.std.specs.Prelude.{sum, not}
@@ -6,12 +7,7 @@ use Rattle.std.proofs.lemmas.Bool.{cases_eq, eq-eqb, ne_eqb, cases_lt}
 use Rattle.std.proofs.lemmas.List.{get_or-set_same, get_or-set_other, set_past, set-get_or}
 use Rattle.std.specs.declared.alloc.Global.{Global}
 use Rattle.std.specs.declared.vec.Vec.{Vec}
-use Rattle.safl_number_set.specs.declared.groups.Groups.{Groups}
-use Rattle.safl_number_set.specs.declared.tally.Tally.{Tally}
 use Rattle.safl_number_set.specs.Groups.{AreGrouped, Tallies, weighed, counted, shown_groups, put_in, turned, only}
-use Rattle.safl_number_set.specs.Linking.{Follows, IsBeside}
-use Rattle.safl_number_set.specs.Numbers.{AreSums, part}
-use Rattle.safl_number_set.specs.Tallies.{AreSummed, Shifts, shift_of}
 use Rattle.safl_number_set.proofs.SumsOfParts.{part_beside, part_sum, part_least, sums_set}
 use Rattle.safl_number_set.proofs.WeighedLists.{weighed_long, weighed_at, weighed_set, weighed_bits, part_few, part_add, part_none, sum_most, only_bits}
 

@@ -1,13 +1,7 @@
 -- Sets that nothing was put into.
+use Rattle.safl_number_set.proofs.Common.{AreBelow, AreLinked, AreSummed, AreSums, Groups, Tally, length-replicate, part, sum}
 use Rattle.std.proofs.Common.{◌≡◌, ℕ, zero, suc, ◌+◌, ◌*◌, ◌/◌, ◌≤◌, List, [], ◌∷◌, length, get_or, replicate, refl, sym, ap, ◌∙◌, subst, arith}
-use Rattle.std.specs.Prelude.{sum}
-use Rattle.std.proofs.lemmas.List.{length-replicate}
-use Rattle.safl_number_set.specs.declared.groups.Groups.{Groups}
-use Rattle.safl_number_set.specs.declared.tally.Tally.{Tally}
 use Rattle.safl_number_set.specs.Groups.{AreGrouped, Tallies, weighed, counted, shown_groups, only}
-use Rattle.safl_number_set.specs.Linking.{AreBelow, AreLinked}
-use Rattle.safl_number_set.specs.Numbers.{AreSums, part}
-use Rattle.safl_number_set.specs.Tallies.{AreSummed}
 use Rattle.safl_number_set.proofs.SumsOfParts.{zeros_part, zero_sums}
 
 abbrev all_of : ℕ → ℕ → List ℕ

@@ -1,3 +1,4 @@
+mod Common
 pub mod SumsOfParts
 pub mod WeighedLists
 pub mod LinkedBlocks

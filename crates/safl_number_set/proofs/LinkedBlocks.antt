@@ -1,9 +1,8 @@
 -- Numbers that are linked from the last one on.
+use Rattle.safl_number_set.proofs.Common.{AreBelow, AreLinkedFrom, Follows, IsBeside, cases_eq}
 use Rattle.std.proofs.Common.{◌≡◌, ◌≢◌, ℕ, suc, ◌/◌, ◌<◌, ◌≤◌, List, length, set, get_or, replicate, refl, sym, ap, ◌∙◌, subst, ⊎_elim, arith, length-set}
-use Rattle.std.proofs.lemmas.Bool.{cases_eq}
 use Rattle.std.proofs.lemmas.List.{get_or-set_same, get_or-set_other, get_or-replicate}
 use Rattle.safl_number_set.specs.declared.links.Links.{Links}
-use Rattle.safl_number_set.specs.Linking.{AreBelow, Follows, IsBeside, AreLinkedFrom}
 
 -- no number is linked
 pub linked_none : (G : List ℕ) (l : Links) (count : ℕ) → l.heads.items ≡ replicate count (length G) → length l.heads.items ≡ count

@@ -1,13 +1,11 @@
 -- Sums of parts of lists.
+use Rattle.safl_number_set.proofs.Common.{AreSums, IsCounted, cases_eq, part, sum}
 use Rattle.std.proofs.Common.{◌≡◌, ◌≢◌, ℕ, zero, suc, ◌+◌, ◌-◌, ◌*◌, ◌/◌, ◌%◌, ◌<◌, ◌≤◌, ◌⊎◌, List, [], ◌∷◌, length, take, drop, set, get_or}
 use Rattle.std.proofs.Common.{replicate, refl, sym, ap, ◌∙◌, subst, ⊎_elim, inl, inr, arith, length-set}
-use Rattle.std.specs.Prelude.{sum}
-use Rattle.std.proofs.lemmas.Bool.{cases_eq}
 use Rattle.std.proofs.lemmas.List.{get_or-set_same, get_or-set_other, get_or-take, get_or-drop, take_all, take-take, take-set-le, drop-set-lt}
 use Rattle.std.proofs.lemmas.List.{drop-set-add, drop-take, length-take, length-drop, length-replicate}
 use Rattle.std.proofs.lemmas.List.Sums.{sum_by-cons, sum_by-set, sum_by_more, sum_by-take-drop, sum_by-take-le, get_or-le-sum_by}
 use Rattle.std.proofs.lemmas.List.Folds.{sum_by-replicate}
-use Rattle.safl_number_set.specs.Numbers.{AreSums, IsCounted, part}
 
 abbrev same : ℕ → ℕ
 same x = x

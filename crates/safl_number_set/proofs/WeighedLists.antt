@@ -1,11 +1,10 @@
 -- Lists of weighed bits.
+use Rattle.safl_number_set.proofs.Common.{part, sum}
 use Rattle.std.proofs.Common.{◌≡◌, ℕ, zero, suc, ◌+◌, ◌*◌, ◌/◌, ◌<◌, ◌≤◌, List, [], ◌∷◌, length, take, drop, set, get_or, cond, refl, sym, ap, ◌∙◌, ⊎_elim, arith}
-use Rattle.std.specs.Prelude.{sum}
 use Rattle.std.proofs.lemmas.Bool.{cases_eq, eq-eqb, ne_eqb, cases_lt}
 use Rattle.std.proofs.lemmas.List.{get_or-take, get_or-drop, get_or_past, length-take}
 use Rattle.std.proofs.lemmas.List.Sums.{sum_by-cons}
 use Rattle.safl_number_set.specs.Groups.{weighed, only}
-use Rattle.safl_number_set.specs.Numbers.{part}
 use Rattle.safl_number_set.proofs.SumsOfParts.{sum_bits}
 
 abbrev same : ℕ → ℕ

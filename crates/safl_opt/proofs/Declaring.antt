@@ -1,19 +1,13 @@
 -- Signals that are declared one after another.
+use Rattle.safl_opt.proofs.Common.{Declared, Folds, IsNetlist, Netlist, Signal, Values, cases_eq, sig_at, slice_get_within}
 use Rattle.std.proofs.Common.{◌≡◌, ℕ, ◌+◌, ◌<◌, List, [], ◌∷◌, ◌++◌, length, length-append, Some, None, true}
 use Rattle.std.proofs.Common.{false, cond, inl, inr, slice_get, sym, ap, subst, ◌∙◌, arith}
-use Rattle.std.proofs.lemmas.Bool.{cases_eq}
-use Rattle.std.proofs.lemmas.Option.{slice_get_within}
 use Rattle.safl_word.proofs.Lists.{get_end, get_in_front, get_some}
 use Rattle.safl_net.specs.declared.net.NetErr.TheVariants.{NameTaken, BadName}
-use Rattle.safl_net.specs.Netlist.{Netlist, Signal}
 use Rattle.safl_net.specs.Names.{is_good, has_name, is_temp, IsTidy}
 use Rattle.safl_net.specs.Making.{name_in, name_at, refusal, with_signal}
-use Rattle.safl_net.specs.Rules.{IsNetlist}
 use Rattle.safl_net.proofs.Naming.{Unnamed, has_no_name}
-use Rattle.safl_opt.specs.declared.fold.Values.{Values}
-use Rattle.safl_opt.specs.Values.{sig_at, Folds}
 use Rattle.safl_opt.specs.Building.{open_signal}
-use Rattle.safl_opt.specs.Stages.{Declared}
 use Rattle.safl_opt.proofs.Coming.{kept_get, kept_within}
 use Rattle.safl_opt.proofs.Adding.{kept_lasts}
 use Rattle.safl_opt.proofs.Starting.{kept_once}

@@ -1,4 +1,5 @@
 -- The net that is built has the inputs, registers, named wires and outputs of the net of which the values are.
+use Rattle.safl_opt.proofs.Common.{Different, IsNetlist, IsOrder, IsTidy, Sig, Values, bool_at, is_numbered, is_temp}
 use Rattle.std.proofs.Common.{◌≡◌, ℕ, zero, suc, ◌+◌, ◌-◌, ◌<◌, ◌≤◌, List, [], ◌∷◌, ◌++◌, map, length, take, Option, Some}
 use Rattle.std.proofs.Common.{None, Bool, true, false, cond, ◌&&◌, not, inl, inr, slice_get, refl, sym, ap, subst, ◌∙◌, arith}
 use Rattle.std.proofs.Common.{append_assoc}
@@ -7,19 +8,11 @@ use Rattle.std.proofs.lemmas.Option.{get_or_from_slice_get, slice_get_within}
 use Rattle.std.proofs.lemmas.Grind.{flat_map-append}
 use Rattle.std.proofs.Math.Seq.{take-suc, take-length}
 use Rattle.std.specs.List.{flat_map}
-use Rattle.safl_word.specs.Lists.{bool_at}
 use Rattle.safl_word.proofs.Lists.{get_back, get_in_front, get_mapped, get_some}
-use Rattle.safl_net.specs.declared.cell.Sig.{Sig}
 use Rattle.safl_net.specs.Netlist.{Netlist, Signal, Kind, Input, Reg, Wire, Cell, width_in, width_of, is_input, is_register, is_wire}
-use Rattle.safl_net.specs.Names.{is_temp, IsTidy}
 use Rattle.safl_net.specs.Making.{kind_in, kind_at, name_in, name_at}
-use Rattle.safl_net.specs.Rules.{IsNetlist}
 use Rattle.safl_net.specs.Arranged.{Each}
 use Rattle.safl_net.specs.Arranged as arranged
-use Rattle.safl_order.specs.Order.{IsOrder}
-use Rattle.safl_opt.specs.declared.fold.Values.{Values}
-use Rattle.safl_opt.specs.Lean.{is_numbered}
-use Rattle.safl_opt.specs.Nodes.{Different}
 use Rattle.safl_opt.specs.Values.{below, inputs_below, registers_below, named_below, kept_in, sig_at, value_width, Folds}
 use Rattle.safl_opt.specs.Building.{IsRoot, shown, AreRead, AreNeeded, new_number, new_cell, new_kind, kept_signal, IsNodeOf, Builds}
 use Rattle.safl_net.specs.Mirrors.{Line, input_line, register_line, wire_line, inputs_in, registers_in, wires_in, outputs_in, KeepsWire, Alike, IsNamed, IsTemp, IsLaidOut}

@@ -1,3 +1,4 @@
+mod Common
 pub mod Inserting
 pub mod Coming
 pub mod TempNames

@@ -1,11 +1,6 @@
 -- Lists that grow at their ends.
+use Rattle.safl_opt.proofs.Common.{Sig, map_push, numbers, numbers_length, sig_at, take_next}
 use Rattle.std.proofs.Common.{◌≡◌, ℕ, zero, suc, ◌+◌, ◌<◌, ◌≤◌, List, [], ◌∷◌, ◌++◌, map, length, take, Some, slice_get, refl, sym, ap, ◌∙◌, arith}
-use Rattle.std.proofs.lemmas.List.{map_push}
-use Rattle.safl_word.proofs.Lists.{take_next}
-use Rattle.safl_net.specs.declared.cell.Sig.{Sig}
-use Rattle.safl_net.specs.Making.{numbers}
-use Rattle.safl_net.proofs.Keeping.{numbers_length}
-use Rattle.safl_opt.specs.Values.{sig_at}
 
 pub mapped_few : {A B : Type 0} (g : A → B) (xs : List A) (i : ℕ) → length (map g (take i xs)) ≤ i
 mapped_few g [] zero = omega arith

@@ -1,22 +1,11 @@
 -- The signals of the net that is built stand for those of the net of which the values are.
+use Rattle.safl_opt.proofs.Common.{Different, Folds, IsNetlist, IsOrder, IsTemporary, IsTidy, KindFits, Sig, SigKind, Val, Values, Wired}
+use Rattle.safl_opt.proofs.Common.{bool_at, is_numbered, is_temp, ltb-false, ltb-true, sig_at, slice_get_within}
 use Rattle.std.proofs.Common.{◌≡◌, ℕ, suc, ◌+◌, ◌-◌, ◌<◌, List, [], ◌∷◌, map, length, Some}
 use Rattle.std.proofs.Common.{None, Bool, true, false, cond, nat_lt, bytes_eq, ◌⊎◌, inl, inr, ⊎_elim, slice_get, refl, sym, ap}
 use Rattle.std.proofs.Common.{subst, ◌∙◌}
-use Rattle.std.proofs.lemmas.Bool.{ltb-true, ltb-false}
-use Rattle.std.proofs.lemmas.Option.{slice_get_within}
-use Rattle.safl_word.specs.Lists.{bool_at}
-use Rattle.safl_net.specs.declared.cell.Sig.{Sig}
-use Rattle.safl_net.specs.declared.cell.SigKind.{SigKind}
 use Rattle.safl_net.specs.Netlist.{Netlist, Signal, Kind, Input, Reg, Wire, IsSet, AllSet, width_in, output_place}
-use Rattle.safl_net.specs.Names.{is_temp, IsTidy}
 use Rattle.safl_net.specs.Making.{kind_in, kind_at, name_in, sort_of}
-use Rattle.safl_net.specs.Rules.{IsNetlist, KindFits}
-use Rattle.safl_net.specs.Growth.{Val, Wired}
-use Rattle.safl_order.specs.Order.{IsOrder}
-use Rattle.safl_opt.specs.declared.fold.Values.{Values}
-use Rattle.safl_opt.specs.Lean.{is_numbered, IsTemporary}
-use Rattle.safl_opt.specs.Nodes.{Different}
-use Rattle.safl_opt.specs.Values.{sig_at, Folds}
 use Rattle.safl_opt.specs.Building.{IsRoot, shown, kept, AreRead, AreNeeded, new_number, new_kind, kept_signal, IsNodeOf, Builds}
 use Rattle.safl_opt.proofs.Coming.{kept_get}
 use Rattle.safl_opt.proofs.TempNames.{numbered_temp, not_temp}

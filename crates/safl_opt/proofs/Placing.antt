@@ -1,22 +1,11 @@
 -- Temporaries that are made one after another for the nodes that are read.
+use Rattle.safl_opt.proofs.Common.{Folds, IsNetlist, IsOrder, IsTidy, Node, Sig, Values, bool_at, cases_eq, ltb-false, ltb-true, map-map}
+use Rattle.safl_opt.proofs.Common.{node_op, node_operands, op_width, sig_at, slice_get_within, temp_name, value_width, wires}
 use Rattle.std.proofs.Common.{◌≡◌, ℕ, zero, suc, ◌+◌, ◌-◌, ◌<◌, ◌≤◌, List, [], ◌∷◌, ◌++◌, map, length, length-append, Some, Bool, true}
 use Rattle.std.proofs.Common.{false, nat_lt, inl, inr, slice_get, refl, sym, ap, subst, ◌∙◌, arith}
-use Rattle.std.proofs.lemmas.Bool.{cases_eq, ltb-true, ltb-false}
-use Rattle.std.proofs.lemmas.Option.{slice_get_within}
-use Rattle.std.proofs.lemmas.Simd.{map-map}
-use Rattle.safl_word.specs.Lists.{bool_at}
 use Rattle.safl_word.proofs.Lists.{get_end, get_in_front, get_pushed, get_some, map_at}
-use Rattle.safl_net.specs.declared.cell.Sig.{Sig}
 use Rattle.safl_net.specs.Netlist.{Netlist, Signal, Wire, Cell, width_in, width_of}
-use Rattle.safl_net.specs.Names.{temp_name, wires, IsTidy}
 use Rattle.safl_net.specs.Making.{wired}
-use Rattle.safl_net.specs.Rules.{IsNetlist}
-use Rattle.safl_net.specs.Widths.{op_width}
-use Rattle.safl_order.specs.Order.{IsOrder}
-use Rattle.safl_opt.specs.declared.node.Node.{Node}
-use Rattle.safl_opt.specs.declared.fold.Values.{Values}
-use Rattle.safl_opt.specs.Nodes.{node_op, node_operands}
-use Rattle.safl_opt.specs.Values.{sig_at, value_width, Folds}
 use Rattle.safl_opt.specs.Building.{AreRead, node_cell, IsNodeOf, IsAdded}
 use Rattle.safl_opt.specs.Stages.{Declared, HasTemporary, IsOfNode, Placed}
 use Rattle.safl_opt.proofs.Adding.{at_front, at_end, few_placed, kept_few}

@@ -1,13 +1,7 @@
 -- In a net without loops, temporaries that something reads are reached.
+use Rattle.safl_opt.proofs.Common.{Cell, Input, IsAcyclic, IsWire, Kind, Netlist, ReadsSignal, Reg, SigKind, Signal, Wire, cases_eq}
+use Rattle.safl_opt.proofs.Common.{cell_in, get_some, kind_in, name_at, operands_in, sort_of, wire_in_net}
 use Rattle.std.proofs.Common.{◌≡◌, ℕ, zero, suc, ◌+◌, ◌<◌, ◌≤◌, length, Option, Some, None, Bool, true, false, inl, inr, slice_get, refl, sym, ap, ◌∙◌, arith}
-use Rattle.std.proofs.lemmas.Bool.{cases_eq}
-use Rattle.safl_word.proofs.Lists.{get_some}
-use Rattle.safl_net.specs.declared.cell.SigKind.{SigKind}
-use Rattle.safl_net.specs.Netlist.{Netlist, Signal, Kind, Input, Reg, Wire, Cell}
-use Rattle.safl_net.specs.Making.{kind_in, name_at, cell_in, sort_of}
-use Rattle.safl_net.specs.Valuations.{IsAcyclic}
-use Rattle.safl_order.specs.Order.{IsWire, ReadsSignal, operands_in}
-use Rattle.safl_order.proofs.Moves.{wire_in_net}
 use Rattle.safl_opt.specs.Lean.{is_numbered, IsTemporary, HasCell, Reached, shown, kept, named, read, Lean}
 use Rattle.safl_opt.specs.Spare.{IsReader, HasReader, IsWanted}
 use Rattle.safl_opt.proofs.Adding.{known}

@@ -1,24 +1,13 @@
 -- Cells and next signals that are set one after another.
-use Rattle.std.proofs.lemmas.List.Elements.{All-nil, All-cons}
+use Rattle.safl_opt.proofs.Common.{All-cons, All-nil, IsNetlist, IsOrder, IsTemporary, IsWire, KindFits, Sig, SigKind, Values, cases_eq}
+use Rattle.safl_opt.proofs.Common.{is_numbered, map-map, map_at, one_wire, op_width, operands_in, slice_get_within, wires}
 use Rattle.std.proofs.Common.{All, ◌≡◌, ℕ, zero, suc, ◌+◌, ◌-◌, ◌<◌, List, [], ◌∷◌, map, length, Option, Some, None, Bool, true}
 use Rattle.std.proofs.Common.{false, inl, inr, slice_get, refl, sym, ap, subst, ◌∙◌, arith}
-use Rattle.std.proofs.lemmas.Bool.{cases_eq}
-use Rattle.std.proofs.lemmas.Option.{slice_get_within}
-use Rattle.std.proofs.lemmas.Simd.{map-map}
-use Rattle.safl_word.proofs.Lists.{map_at}
-use Rattle.safl_net.specs.declared.cell.Sig.{Sig}
-use Rattle.safl_net.specs.declared.cell.SigKind.{SigKind}
 use Rattle.safl_net.specs.Netlist.{Netlist, Signal, Kind, Input, Reg, Wire, Cell, IsSet, AllSet, width_in, width_of, open_kind}
-use Rattle.safl_net.specs.Names.{one_wire, wires}
 use Rattle.safl_net.specs.Making.{kind_in, kind_at, name_at, cell_in, next_in, sort_of, with_kind, set_kind, signal_widths, numbers}
-use Rattle.safl_net.specs.Rules.{IsNetlist, KindFits}
 use Rattle.safl_net.specs.Valuations.{kind_reset, reset_number, reset_state}
-use Rattle.safl_net.specs.Widths.{op_width}
 use Rattle.safl_net.proofs.SignalKinds.{next_kind, set_at, set_other, tidy_kind}
 use Rattle.safl_net.proofs.Keeping.{set_length, set_width}
-use Rattle.safl_order.specs.Order.{IsWire, IsOrder, operands_in}
-use Rattle.safl_opt.specs.declared.fold.Values.{Values}
-use Rattle.safl_opt.specs.Lean.{is_numbered, IsTemporary}
 use Rattle.safl_opt.specs.Values.{sig_at, Folds, HasValue, IsDone}
 use Rattle.safl_opt.specs.Building.{IsRoot, shown, kept, named, AreRead, new_number, new_cell, new_kind, open_signal, kept_signal}
 use Rattle.safl_opt.specs.Stages.{Placed, HaveNumbers, IsTurn, AreListed, SetBelow}

@@ -1,20 +1,10 @@
 -- Outputs that are shown one after another.
+use Rattle.safl_opt.proofs.Common.{Folds, IsNetlist, IsTidy, Netlist, Sig, Signal, Values, get_some, is_temp, ltb-false, ltb-true, map_push}
+use Rattle.safl_opt.proofs.Common.{name_in, option_map, refusal, sig_at, slice_get_within, take_next, with_output}
 use Rattle.std.proofs.Common.{◌≡◌, ℕ, zero, suc, ◌+◌, ◌<◌, ◌≤◌, List, [], ◌∷◌, ◌++◌, map, length, take, Option, Some, None, Bool, true, false, nat_lt}
 use Rattle.std.proofs.Common.{◌⊎◌, inl, inr, slice_get, refl, sym, ap, subst, ◌∙◌, arith}
-use Rattle.std.specs.Prelude.{option_map}
-use Rattle.std.proofs.lemmas.Bool.{ltb-true, ltb-false}
-use Rattle.std.proofs.lemmas.Option.{slice_get_within}
-use Rattle.std.proofs.lemmas.List.{map_push}
 use Rattle.std.proofs.Math.Seq.{take-length}
-use Rattle.safl_word.proofs.Lists.{get_some, take_next}
-use Rattle.safl_net.specs.declared.cell.Sig.{Sig}
-use Rattle.safl_net.specs.Netlist.{Netlist, Signal}
-use Rattle.safl_net.specs.Names.{is_temp, IsTidy}
-use Rattle.safl_net.specs.Making.{name_in, refusal, with_output}
-use Rattle.safl_net.specs.Rules.{IsNetlist}
 use Rattle.safl_net.proofs.Tidy.{tidy_output}
-use Rattle.safl_opt.specs.declared.fold.Values.{Values}
-use Rattle.safl_opt.specs.Values.{sig_at, Folds}
 use Rattle.safl_opt.specs.Building.{IsRoot, shown, new_number, kept_signal, Builds}
 use Rattle.safl_opt.specs.Stages.{Placed, SetBelow, HasName, AreNamed, Shown}
 use Rattle.safl_opt.proofs.Coming.{kept_within}

@@ -1,20 +1,12 @@
 -- Cells that could not be spared.
+use Rattle.safl_opt.proofs.Common.{Cell, CellFits, Netlist, Op, Primitive, Sig, Word, numbers_length, op_width, sig_at, width_of}
 use Rattle.std.proofs.Common.{◌≡◌, ◌≢◌, ℕ, zero, suc, ◌<◌, List, [], ◌∷◌, length, take, Some, Bool, true, false, not}
 use Rattle.std.proofs.Common.{◌&&◌, slice_index_or, refl, sym, ap, ◌∙◌, arith}
 use Rattle.std.proofs.lemmas.List.{length-map}
-use Rattle.safl_word.specs.Words.{Word}
-use Rattle.safl_word.specs.declared.primitive.Primitive.{Primitive}
-use Rattle.safl_net.specs.declared.cell.Sig.{Sig}
-use Rattle.safl_net.specs.declared.cell.Op.{Op}
 use Rattle.safl_net.specs.declared.cell.Op.TheVariants.{Const, Copy, Mux, Apply}
-use Rattle.safl_net.specs.Netlist.{Netlist, Cell, width_of}
 use Rattle.safl_net.specs.Making.{numbers, signal_widths, cell_on}
-use Rattle.safl_net.specs.Rules.{CellFits}
 use Rattle.safl_net.specs.Operands.{mux_operands}
-use Rattle.safl_net.specs.Widths.{op_width}
-use Rattle.safl_net.proofs.Keeping.{numbers_length}
 use Rattle.safl_opt.specs.Lean.{is_const, is_constant, are_constants}
-use Rattle.safl_opt.specs.Values.{sig_at}
 use Rattle.safl_opt.specs.Spare.{IsChoice, IsNeeded}
 
 -- ---- cells by their operations

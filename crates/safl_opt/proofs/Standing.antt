@@ -1,23 +1,17 @@
 -- A net whose signals each stand for one of another net mirrors that net.
+use Rattle.safl_opt.proofs.Common.{IsNetlist, Word, get_some, is_temp, map_at, name_at, name_in, place_of, slice_get_within}
 use Rattle.std.proofs.Common.{◌≡◌, ℕ, zero, suc, ◌+◌, ◌<◌, ◌^◌, List, [], ◌∷◌, length, Option, Some, None, Bool, true, false, cond, bytes_eq}
 use Rattle.std.proofs.Common.{slice_get, slice_index, refl, sym, ap, subst, ◌∙◌, arith}
 use Rattle.std.proofs.lemmas.Nat.{pow_pos}
 use Rattle.std.proofs.lemmas.Slice.Eq.{bytes_eq-Decides}
-use Rattle.std.proofs.lemmas.Option.{slice_get_within}
-use Rattle.safl_word.specs.Words.{Word}
-use Rattle.safl_word.proofs.Lists.{get_some, map_at}
 use Rattle.safl_word.proofs.Words.{word_eq}
 use Rattle.safl_net.specs.Netlist.{Netlist, Signal, Kind, Input, Reg, Wire, Cell, IsSet, AllSet, width_in, place, output_place}
-use Rattle.safl_net.specs.Names.{is_temp}
-use Rattle.safl_net.specs.Rules.{IsNetlist}
 use Rattle.safl_net.specs.Laws.{FitWidths, OneFits}
-use Rattle.safl_net.specs.Making.{name_in, name_at}
 use Rattle.safl_net.specs.Valuations.{Valuation, Holds, Fits, IsAcyclic, signal_word, cell_word, number_at, read, read_next, read_output, next_at, next_number, kind_next}
 use Rattle.safl_net.specs.Growth.{Val, KindHolds, Wired}
 use Rattle.safl_net.proofs.CellWords.{wired_shown}
 use Rattle.safl_net.proofs.OneValuation.{one_valuation}
 use Rattle.safl_net.proofs.Existence.{exactly_one}
-use Rattle.safl_net.proofs.Reading.{place_of}
 use Rattle.safl_opt.proofs.Adding.{operand_known}
 use Rattle.safl_net.proofs.Twins.{own}
 use Rattle.safl_net.specs.Mirrors.{IsCycle, ShowsCycle, Mirrors}

@@ -1,13 +1,9 @@
 -- Names of temporaries in a tidy net.
+use Rattle.safl_opt.proofs.Common.{IsNetlist, IsTidy, SigKind, is_temp, kind_in, name_in, nat_tests, one_wire, sort_of, wires}
 use Rattle.std.proofs.Common.{◌≡◌, ℕ, ◌+◌, ◌<◌, ◌≤◌, ◌^◌, ◌%◌, List, [], ◌∷◌, ◌++◌, take, decimal, Some, Bool, true, false, nat_le, ◌==◌, ◌&&◌, slice_get, refl, ap, ◌∙◌, arith}
-use Rattle.std.proofs.lemmas.Bool.Decides.{nat_tests}
 use Rattle.std.proofs.lemmas.Fmt.{decimal_by_steps}
 use Rattle.std.proofs.lemmas.List.{length-take}
-use Rattle.safl_net.specs.declared.cell.SigKind.{SigKind}
 use Rattle.safl_net.specs.Netlist.{Netlist, Signal, Kind, Input, Reg, Wire}
-use Rattle.safl_net.specs.Names.{is_temp, one_wire, wires, IsTidy}
-use Rattle.safl_net.specs.Making.{kind_in, name_in, sort_of}
-use Rattle.safl_net.specs.Rules.{IsNetlist}
 use Rattle.safl_net.proofs.Tables.{wires_few}
 use Rattle.safl_opt.specs.Lean.{are_digits, is_numeral, is_numbered, IsTemporary}
 

@@ -1,21 +1,12 @@
 -- The net that is built is what is wanted.
+use Rattle.safl_opt.proofs.Common.{Different, Folds, IsAcyclic, IsNetlist, IsOrder, IsSmaller, Sig, Values, kind_in, place_of, sig_at}
 use Rattle.std.proofs.Common.{◌≡◌, ℕ, List, [], ◌∷◌, map, length, Option, Some, None, Bool, true, false, IsSome, is_some, bytes_eq, cond, refl, sym, ap, ◌∙◌}
 use Rattle.std.specs.Prelude.{codes}
-use Rattle.safl_net.specs.declared.cell.Sig.{Sig}
 use Rattle.safl_net.specs.Netlist.{Netlist, Kind, Input, Reg, Wire, AllSet, width_in, width_of, place, output_place}
 use Rattle.safl_net.specs.Names.{is_temp, IsTidy}
-use Rattle.safl_net.specs.Making.{kind_in}
-use Rattle.safl_net.specs.Rules.{IsNetlist}
-use Rattle.safl_net.specs.Valuations.{IsAcyclic}
 use Rattle.safl_net.specs.Whole.{IsWhole}
-use Rattle.safl_net.proofs.Reading.{place_of}
-use Rattle.safl_order.specs.Order.{IsOrder}
-use Rattle.safl_opt.specs.declared.fold.Values.{Values}
 use Rattle.safl_net.specs.Mirrors.{Line, outputs_in, Alike}
-use Rattle.safl_opt.specs.Nodes.{Different}
-use Rattle.safl_opt.specs.Values.{sig_at, Folds}
 use Rattle.safl_opt.specs.Building.{AreRead, AreNeeded, Builds}
-use Rattle.safl_opt.specs.Smaller.{IsSmaller}
 use Rattle.safl_net.proofs.MirrorsRunAlike.{run_alike}
 use Rattle.safl_opt.proofs.Standing.{SameSort, Stands, found, stands_mirrors}
 use Rattle.safl_opt.proofs.Built.{back, acyclic}

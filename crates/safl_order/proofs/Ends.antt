@@ -1,15 +1,11 @@
 -- A walk of all signals gives an order, and an order ranks the wires.
+use Rattle.safl_order.proofs.Common.{AllDone, Frame, IsAcyclic, Mark, Sig, Walks}
 use Rattle.std.proofs.Common.{◌≡◌, ℕ, zero, suc, ◌<◌, List, [], ◌∷◌, length, Option, Some, None, Bool, true, false, cond, ◌==◌, slice_get, refl, sym, ap, subst, ◌∙◌, arith}
 use Rattle.std.proofs.lemmas.Bool.Decides.{nat_tests}
-use Rattle.safl_net.specs.declared.cell.Sig.{Sig}
 use Rattle.safl_net.specs.declared.cell.SigKind.TheVariants as SigKind
 use Rattle.safl_net.specs.Netlist.{Netlist, Signal, Kind, Input, Reg, Wire, Cell, AllSet}
-use Rattle.safl_net.specs.Valuations.{IsAcyclic}
 use Rattle.safl_net.specs.Making.{numbers, kind_in, cell_in, sort_of}
-use Rattle.safl_order.specs.declared.walk.Mark.{Mark}
-use Rattle.safl_order.specs.declared.walk.Frame.{Frame}
 use Rattle.safl_order.specs.Order.{operands_of, operands_in, IsWire, ReadsSignal, Leads, IsLoop, IsOrder}
-use Rattle.safl_order.specs.Walk.{Walks, AllDone}
 
 get_numbers : (xs : List Sig) (i s : ℕ) → slice_get (numbers xs) i ≡ Some s → slice_get xs i ≡ Some (record { 0 = s })
 get_numbers [] i s e = absurd (cc)

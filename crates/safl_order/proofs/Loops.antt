@@ -1,14 +1,8 @@
 -- The wires of a stack whose top looks back are a loop.
+use Rattle.safl_order.proofs.Common.{Frame, Mark, Netlist, Open, Sig, numbers, slice_get_within}
 use Rattle.std.proofs.Common.{◌≡◌, ◌⊎◌, inl, inr, ℕ, zero, suc, ◌+◌, ◌-◌, ◌<◌, ◌≤◌, List, [], ◌∷◌, ◌++◌, map, length, take, drop, Some, slice_get, refl, sym, ap, subst, ◌∙◌, arith}
 use Rattle.std.proofs.lemmas.List.{take_rest, length-drop, map-append, take-append-drop}
-use Rattle.std.proofs.lemmas.Option.{slice_get_within}
 use Rattle.safl_word.proofs.Lists.{get_mapped, get_split, nil_at_end}
-use Rattle.safl_net.specs.declared.cell.Sig.{Sig}
-use Rattle.safl_net.specs.Netlist.{Netlist}
-use Rattle.safl_net.specs.Making.{numbers}
-use Rattle.safl_order.specs.declared.walk.Mark.{Mark}
-use Rattle.safl_order.specs.declared.walk.Mark.TheVariants.{Open}
-use Rattle.safl_order.specs.declared.walk.Frame.{Frame}
 use Rattle.safl_order.specs.Order.{operands_of, ReadsSignal, Leads, IsLoop}
 use Rattle.safl_order.specs.Walk.{Walks, Looks, IsOpenLoop, IsTurned}
 use Rattle.safl_order.proofs.Places.{from_reverse}

@@ -1,18 +1,12 @@
 -- What the steps of the code do to a walk.
+use Rattle.safl_order.proofs.Common.{Done, Frame, Mark, Open, Sig, Stop, Unseen, lower_or_last, slice_get_within}
 use Rattle.std.proofs.Common.{◌≡◌, inl, inr, ℕ, suc, ◌+◌, ◌-◌, ◌<◌, ◌≤◌, ◌^◌, List, [], ◌∷◌, ◌++◌, length, set, take, get_or, Option, Some}
 use Rattle.std.proofs.Common.{None, Result, Ok, Err, OnOk, IfErr, slice_get, refl, sym, ap, subst, ◌∙◌, arith}
-use Rattle.std.proofs.lemmas.Option.{slice_get_within}
 use Rattle.safl_word.proofs.Lists.{get_or_is, get_read, get_some}
-use Rattle.safl_word.proofs.Naturals.{lower_or_last}
-use Rattle.safl_net.specs.declared.cell.Sig.{Sig}
 use Rattle.safl_net.specs.Netlist.{Netlist, Signal, Kind, Input, Reg, Wire}
 use Rattle.safl_net.specs.Making.{kind_at, kind_in, cell_in, next_in, sort_of}
 use Rattle.safl_net.specs.Rules.{IsNetlist, KindFits}
 use Rattle.safl_net.specs.declared.cell.SigKind.{SigKind}
-use Rattle.safl_order.specs.declared.walk.Mark.{Mark}
-use Rattle.safl_order.specs.declared.walk.Mark.TheVariants.{Unseen, Open, Done}
-use Rattle.safl_order.specs.declared.walk.Frame.{Frame}
-use Rattle.safl_order.specs.declared.walk.Stop.{Stop}
 use Rattle.safl_order.specs.declared.walk.Stop.TheVariants.{NoMemory}
 use Rattle.safl_order.specs.Order.{operands_of, IsWire}
 use Rattle.safl_order.specs.Walk.{Walks, Looks, LooksAt, looked_at, DoneBelow, Goes, IsTop, IsStop, IsOpenLoop, AllDone, work}

@@ -1,9 +1,8 @@
 -- Places of lists that are written, grow or are reversed.
+use Rattle.safl_order.proofs.Common.{Frame, Mark}
 use Rattle.std.proofs.Common.{◌≡◌, ℕ, zero, suc, ◌+◌, ◌-◌, ◌≤◌, List, [], ◌∷◌, ◌++◌, length, reverse, get_or, set, take, Some, None, ◌⊎◌, inl, inr, slice_get, refl, sym, ap, ◌∙◌, arith}
 use Rattle.std.proofs.lemmas.List.{length-reverse, get_or-reverse}
 use Rattle.std.proofs.lemmas.Option.{slice_get-get_or, slice_get_within}
-use Rattle.safl_order.specs.declared.walk.Mark.{Mark}
-use Rattle.safl_order.specs.declared.walk.Frame.{Frame}
 use Rattle.safl_order.specs.Walk.{one_unseen, unseen, stack_work}
 
 pub set_cases : {A : Type 0} (xs : List A) (t : ℕ) (x : A) (s : ℕ) (y : A) → slice_get (set xs t x) s ≡ Some y → ((s ≡ t) × (y ≡ x)) ⊎ ((¬ (s ≡ t)) × (slice_get xs s ≡ Some y))

@@ -1,15 +1,9 @@
 -- The steps of a walk keep what it says.
+use Rattle.safl_order.proofs.Common.{Done, Frame, Mark, Netlist, Open, Sig, Unseen, lower_or_last, slice_get_within}
 use Rattle.std.proofs.Common.{◌≡◌, ℕ, zero, suc, ◌+◌, ◌<◌, ◌≤◌, List, [], ◌∷◌, ◌++◌, length, set, take, replicate, Option, Some, None, inl, inr, slice_get, refl, sym, ap, subst, ◌∙◌, arith}
-use Rattle.std.proofs.lemmas.Option.{slice_get_within}
 use Rattle.std.proofs.lemmas.List.{length-set, length_push}
 use Rattle.safl_word.proofs.Lists.{get_end, get_front, get_pushed, get_some}
-use Rattle.safl_word.proofs.Naturals.{lower_or_last}
-use Rattle.safl_net.specs.declared.cell.Sig.{Sig}
-use Rattle.safl_net.specs.Netlist.{Netlist}
 use Rattle.safl_net.specs.Rules.{IsNetlist}
-use Rattle.safl_order.specs.declared.walk.Mark.{Mark}
-use Rattle.safl_order.specs.declared.walk.Mark.TheVariants.{Unseen, Open, Done}
-use Rattle.safl_order.specs.declared.walk.Frame.{Frame}
 use Rattle.safl_order.specs.Order.{operands_of, IsWire}
 use Rattle.safl_order.specs.Walk.{Walks, FrameFits, Looks, looked_at, DoneBelow, Goes, IsTop, one_unseen, unseen, stack_work, work}
 use Rattle.safl_order.proofs.Places.{set_cases, set_other, set_here, past_end, unseen_set, stack_push, stack_set, split_last, to_reverse}

@@ -1,9 +1,6 @@
 -- From what is read to what parsing answers.
+use Rattle.safl_parse.proofs.Common.{Definition, Fault, Token, terminals}
 use Rattle.std.proofs.Common.{◌≡◌, ℕ, List, Ok, Err}
-use Rattle.safl_word.specs.declared.token.Token.{Token}
-use Rattle.safl_word.specs.declared.fault.Fault.{Fault}
-use Rattle.safl_tree.specs.Tree.{Definition}
-use Rattle.safl_tree.specs.Terminals.{terminals}
 use Rattle.safl_tree.specs.Reader.{read_source}
 use Rattle.safl_tree.specs.Source.{TokensSpell, TokensFault, rule_of, place_in, fault_at}
 use Rattle.safl_tree.proofs.Programs

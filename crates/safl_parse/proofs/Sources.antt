@@ -1,14 +1,12 @@
 -- From the tokens of a source to the source.
+use Rattle.safl_parse.proofs.Common.{Definition, Fault, Token}
 use Rattle.std.proofs.Common.{◌≡◌, ℕ, List, Result, Ok, Err, IfOk, IfErr, subst, sym, ap, ◌∙◌}
-use Rattle.safl_word.specs.declared.token.Token.{Token}
-use Rattle.safl_word.specs.declared.fault.Fault.{Fault}
 use Rattle.safl_word.specs.Tokens.{HasTokens}
 use Rattle.safl_word.proofs.Cuts.{fault_of_break}
 use Rattle.safl_word.proofs.TokensOnce.{tokens_once, not_both}
 use Rattle.safl_text.specs.declared.error.LexErr.{LexErr}
 use Rattle.safl_text.specs.declared.error.LexErr.TheVariants as lexing
 use Rattle.safl_text.specs.Lexing.{RefusesTokens}
-use Rattle.safl_tree.specs.Tree.{Definition}
 use Rattle.safl_tree.specs.Shown.{shown_program}
 use Rattle.safl_tree.specs.declared.tree.Program.{Program}
 use Rattle.safl_tree.specs.Source.{TokensSpell, TokensFault, SpellsProgram, SyntaxFault, lexical, of_tokens, fault_at}

@@ -1,14 +1,8 @@
 -- What the asked probes give at the beginning and at the end of a run.
+use Rattle.safl_probe.proofs.Common.{AreApart, Asked, Beginning, End, Files, IsAsked, Netlist, TellsOn, Valuation, after_frames, probe_at}
 use Rattle.std.proofs.Common.{◌≡◌, ℕ, List, Option, ap, subst}
-use Rattle.safl_io.specs.Told.{TellsOn}
-use Rattle.safl_io.specs.Shelf.{Files}
-use Rattle.safl_net.specs.Netlist.{Netlist}
-use Rattle.safl_net.specs.Valuations.{Valuation}
 use Rattle.safl_probe.specs.Probing.{ProbeState, IsWatching, Tells, begun, begin_text, finish_text}
-use Rattle.safl_probe.specs.Calls.{after_frames}
-use Rattle.safl_probe.specs.Asked.{Asked, IsAsked, AreApart, probe_at}
 use Rattle.safl_probe.specs.Growth.{AllGrow, Made, Longer, LongerPart, OldOrPart, Grown, GrownPart}
-use Rattle.safl_probe.specs.declared.moment.Moment.TheVariants.{Beginning, End}
 use Rattle.safl_probe.proofs.Growing.{told_weaker}
 use Rattle.safl_probe.proofs.Frames.{watching_more}
 

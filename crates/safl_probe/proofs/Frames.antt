@@ -1,20 +1,12 @@
 -- Frames that probes are shown, and the texts that they give.
+use Rattle.safl_probe.proofs.Common.{AllGrow, Asked, Files, IsAsked, Longer, LongerPart, Made, Netlist, OldOrPart, Relation, TellsOn}
+use Rattle.safl_probe.proofs.Common.{TellsOn-then, Text, Valuation, after_frames, cases_lt, cycle_texts, file_of, trace}
 use Rattle.std.proofs.Common.{◌≡◌, ℕ, ◌+◌, List, [], ◌∷◌, ◌++◌, length, take, drop, Option, Some, None, refl, sym, ap, subst, ◌∙◌, inl, inr, append_assoc, add-zero, arith}
 use Rattle.std.proofs.lemmas.List.{append-nil, take_at, drop_at, take_all, take-append-le}
-use Rattle.std.proofs.lemmas.Bool.{cases_lt}
 use Rattle.std.proofs.Math.Seq.{take-add}
-use Rattle.safl_io.specs.Told.{TellsOn}
-use Rattle.safl_io.specs.Shelf.{Files, file_of}
-use Rattle.safl_io.proofs.Telling.{TellsOn-then}
-use Rattle.safl_net.specs.Netlist.{Netlist}
-use Rattle.safl_net.specs.Valuations.{Valuation}
 use Rattle.safl_probe.specs.Watching.{ProbeShape}
-use Rattle.safl_probe.specs.Texts.{Text, trace}
 use Rattle.safl_probe.specs.Probing.{ProbeState, IsWatching, Tells, begun, after_frame, begin_text, cycle_text, finish_text}
-use Rattle.safl_probe.specs.Calls.{cycle_texts, after_frames}
 use Rattle.safl_probe.proofs.Traced.{calls_make_traces}
-use Rattle.safl_probe.specs.Asked.{Asked, IsAsked}
-use Rattle.safl_probe.specs.Growth.{Longer, LongerPart, Made, OldOrPart, Relation, AllGrow}
 use Rattle.safl_probe.specs.Rounds.{IsReady}
 use Rattle.safl_probe.proofs.Growing.{told_weaker}
 

@@ -1,19 +1,12 @@
 -- Files that grow, one piece after another.
+use Rattle.safl_probe.proofs.Common.{AreApart, Asked, Beginning, End, Frame, IsAsked, Moment, TellsOn, TellsOn-then, Text, bytes_eq-Decides}
+use Rattle.safl_probe.proofs.Common.{cases_eq, cases_lt, false≢true, lower_or_last}
 use Rattle.std.proofs.Common.{◌≡◌, ◌≢◌, ℕ, ◌+◌, ◌<◌, ◌≤◌, ◌⊎◌, List, [], ◌++◌, take, length, get_or, Option, Some, None, IsSome, IsSomeAnd, IfSome}
 use Rattle.std.proofs.Common.{OnSome, Bool, true, false, bytes_eq, refl, sym, ap, subst, ◌∙◌, inl, inr, arith}
 use Rattle.std.proofs.lemmas.List.{append-nil, take_all, get_or_past}
-use Rattle.std.proofs.lemmas.Bool.{cases_lt, cases_eq, false≢true}
 use Rattle.std.specs.Bool.{Decides}
-use Rattle.std.proofs.lemmas.Slice.Eq.{bytes_eq-Decides}
-use Rattle.safl_word.proofs.Naturals.{lower_or_last}
-use Rattle.safl_io.specs.Told.{TellsOn}
 use Rattle.safl_io.specs.Shelf.{Files, file_of, Leaves, LeavesOldOrEmpty, Appends}
-use Rattle.safl_io.proofs.Telling.{TellsOn-then}
-use Rattle.safl_probe.specs.Texts.{Text}
-use Rattle.safl_probe.specs.Asked.{Asked, IsAsked, AreApart}
 use Rattle.safl_probe.specs.Growth.{Longer, LongerPart, Grown, OldOrPart, GrownPart, Relation, Grows, AllGrow, FirstGrow, Opens, IsThere, AllThere, NowThere}
-use Rattle.safl_probe.specs.declared.moment.Moment.{Moment}
-use Rattle.safl_probe.specs.declared.moment.Moment.TheVariants.{Beginning, Frame, End}
 
 -- ---- what is told
 

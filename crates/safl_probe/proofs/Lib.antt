@@ -1,3 +1,4 @@
+mod Common
 pub mod Rest
 pub mod Codes
 pub mod Looks

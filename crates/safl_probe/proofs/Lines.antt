@@ -1,4 +1,5 @@
 -- What the lines of a dump tell.
+use Rattle.safl_probe.proofs.Common.{Watched, eqb-suc-zero, number_digits_of}
 use Rattle.std.proofs.Common.{◌≡◌, ℕ, zero, suc, ◌+◌, ◌-◌, ◌<◌, ◌^◌, inl, inr, List, [], ◌∷◌, ◌++◌, map, length, reverse, Bool, true, false, ◌==◌}
 use Rattle.std.proofs.Common.{◌&&◌, refl, sym, ap, subst, ◌∙◌, append_assoc, arith, codes}
 use Rattle.std.specs.Prelude.{if◌then◌else◌, nat_le, not}
@@ -6,13 +7,10 @@ use Rattle.std.specs.List.{list_all}
 use Rattle.std.specs.Fmt.{decimal}
 use Rattle.std.specs.Int.Digits.{digits_of, number_from_digits}
 use Rattle.std.proofs.lemmas.Bool.Decides.{nat_tests, eqb_tells}
-use Rattle.std.proofs.lemmas.Int.Digits.{number_digits_of}
-use Rattle.std.proofs.Math.Dec.{eqb-suc-zero}
 use Rattle.std.proofs.lemmas.Bool.{and_parts, not-true}
 use Rattle.safl_word.specs.Numerals.{binary, is_digit}
 use Rattle.safl_word.proofs.WordLaws.{decimal_counts}
 use Rattle.safl_net.specs.Names.{is_good, is_identifier, is_reserved, is_start, is_part, are_parts}
-use Rattle.safl_probe.specs.Watching.{Watched}
 use Rattle.safl_probe.specs.Texts.{Text, code, value_text, variable, variable_texts, value_texts, changed, changes, header, time, timed, dump}
 use Rattle.safl_probe.proofs.Codes.{code_of}
 use Rattle.safl_probe.specs.Following.{lines, before_first, before_space, behind_space, binary_number, told_by, Line, Time, Change, Other}

@@ -1,13 +1,10 @@
 -- What is watched, one signal more at a time, and what is seen of it.
+use Rattle.safl_probe.proofs.Common.{Entry, Word, get_some, watched_all, watched_in}
 use Rattle.std.proofs.Common.{◌≡◌, ℕ, zero, suc, ◌<◌, List, [], ◌∷◌, ◌++◌, length, map, Option, Some, None, slice_get, slice_index, refl, sym, ap, ◌∙◌}
 use Rattle.std.specs.Prelude.{option_map}
-use Rattle.safl_word.specs.Words.{Word}
-use Rattle.safl_word.proofs.Lists.{get_some}
 use Rattle.safl_word.proofs.Options.{both_halves}
 use Rattle.safl_net.specs.Netlist.{Netlist, Signal, width_of, width_in}
 use Rattle.safl_net.specs.Making.{kind_at, name_at, kind_in, name_in}
-use Rattle.safl_probe.specs.Entries.{watched_in, watched_all}
-use Rattle.safl_probe.specs.declared.entry.Entry.{Entry}
 
 -- a signal by its name, width and kind
 pub signal_there : (n : Netlist) (i : ℕ) → i < length n.signals → slice_get n.signals i ≡ Some (record { name = name_at n i; width = width_of n i; kind = kind_at n i })

@@ -1,14 +1,10 @@
 -- One cycle more of a run that is watched.
+use Rattle.safl_probe.proofs.Common.{Files, Shown, TellsOn, Valuation, cycle_texts, file_of}
 use Rattle.std.proofs.Common.{◌≡◌, ℕ, List, [], ◌∷◌, ◌++◌, map, Option, Some, None, OnSome, refl, sym, subst, ◌∙◌, arith}
-use Rattle.safl_io.specs.Told.{TellsOn}
-use Rattle.safl_io.specs.Shelf.{Files, file_of}
-use Rattle.safl_net.specs.Valuations.{Valuation}
 use Rattle.safl_probe.specs.Probing.{ProbeState, Tells, after_frame, cycle_text}
-use Rattle.safl_probe.specs.Calls.{cycle_texts}
 use Rattle.safl_probe.specs.Asked.{Asked, IsAsked, NoneAsked, AreApart, probe_at}
 use Rattle.safl_probe.specs.Growth.{AllGrow, Longer, LongerPart, Grown, GrownPart, AllThere, NowThere}
 use Rattle.safl_probe.specs.Stopping.{SameProbes, KeepsProbes}
-use Rattle.safl_probe.specs.Rounds.{Shown}
 use Rattle.safl_probe.specs.declared.moment.Moment.TheVariants as moments
 use Rattle.safl_probe.proofs.Growing.{told_same, told_weaker, longer_same}
 use Rattle.safl_probe.proofs.Frames.{text_more, told_more, all_longer, all_longer_part}

@@ -1,16 +1,12 @@
 -- A dump shows each traced signal's number in each frame.
+use Rattle.safl_probe.proofs.Common.{IsNetlist, Valuation, append-nil, get_some, option_or}
 use Rattle.std.proofs.Common.{◌≡◌, ℕ, zero, suc, ◌+◌, ◌<◌, ◌≤◌, ◌^◌, List, [], ◌∷◌, ◌++◌, map, length, Some, None, Bool, true, false, cond, slice_get}
 use Rattle.std.proofs.Common.{slice_index, refl, sym, ap, subst, ◌∙◌, add-zero, append_assoc, arith, lit<}
-use Rattle.std.specs.Option.{option_or}
-use Rattle.std.proofs.lemmas.List.{append-nil}
 use Rattle.std.proofs.lemmas.Bool.{le-ltb}
-use Rattle.safl_word.proofs.Lists.{get_some}
 use Rattle.safl_net.specs.Netlist.{Netlist, Signal, width_of, width_in}
 use Rattle.safl_net.specs.Names.{is_good}
-use Rattle.safl_net.specs.Rules.{IsNetlist}
 use Rattle.safl_net.specs.Laws.{FitWidths}
 use Rattle.safl_net.specs.Making.{sort_of}
-use Rattle.safl_net.specs.Valuations.{Valuation}
 use Rattle.safl_probe.specs.declared.kind.Group.{Group}
 use Rattle.safl_probe.specs.declared.kind.Group.TheVariants.{Inputs, Registers, NamedWires}
 use Rattle.safl_probe.specs.declared.kind.TraceKind.TheVariants.{Vcd}

@@ -1,13 +1,9 @@
 -- Spots: what they are of, and what they have seen.
+use Rattle.safl_probe.proofs.Common.{Entry, Spot, Valuation, Watched, drop-cons, seen}
 use Rattle.std.proofs.Common.{◌≡◌, ℕ, zero, suc, ◌+◌, ◌<◌, ◌≤◌, List, [], ◌∷◌, ◌++◌, length, take, drop, map, get_or, Option, Some, slice_get, slice_set, slice_index, codes}
 use Rattle.std.proofs.Common.{refl, sym, ap, ◌∙◌, add-one, arith}
-use Rattle.std.proofs.Math.Seq.{drop-cons}
-use Rattle.safl_net.specs.Valuations.{Valuation}
-use Rattle.safl_probe.specs.Watching.{Watched, seen}
 use Rattle.safl_probe.specs.Texts.{Text, value_text, value_texts, changed, changes, time, timed, dump, start_lines, toggled}
 use Rattle.safl_probe.specs.Entries.{watched_in, watched_all, spot_of, name_of, named, watched_from, nameless, numbers, looked, looked_all}
-use Rattle.safl_probe.specs.declared.entry.Entry.{Entry}
-use Rattle.safl_probe.specs.declared.entry.Spot.{Spot}
 
 -- ---- spots of entries are of the same signals
 

@@ -1,17 +1,13 @@
 -- Each number stands until the next change of its code.
+use Rattle.safl_probe.proofs.Common.{Valuation, Watched, bytes_eq-Decides, number_digits_of, option_or, seen}
 use Rattle.std.proofs.Common.{◌≡◌, ℕ, zero, suc, ◌+◌, ◌-◌, ◌<◌, ◌≤◌, List, [], ◌∷◌, ◌++◌, map, reverse, Option, Some, None, Bool, true, false, ◌==◌}
 use Rattle.std.proofs.Common.{slice_get, slice_index, refl, sym, ap, subst, ◌∙◌, arith, bytes_eq, inl, inr}
 use Rattle.std.specs.Prelude.{if◌then◌else◌}
-use Rattle.std.specs.Option.{option_or}
 use Rattle.std.specs.Int.Digits.{digits_of, number_from_digits}
 use Rattle.std.proofs.lemmas.List.{reverse-reverse, append-nil}
 use Rattle.std.proofs.lemmas.Bool.Decides.{eqb_tells}
-use Rattle.std.proofs.lemmas.Slice.Eq.{bytes_eq-Decides}
-use Rattle.std.proofs.lemmas.Int.Digits.{number_digits_of}
 use Rattle.std.proofs.lemmas.Bool.{le-ltb, lt-ltb}
 use Rattle.safl_word.proofs.Options.{option_or_assoc}
-use Rattle.safl_net.specs.Valuations.{Valuation}
-use Rattle.safl_probe.specs.Watching.{Watched, seen}
 use Rattle.safl_probe.specs.Texts.{Text, code, changes}
 use Rattle.safl_probe.specs.Following.{Line, Time, Change, is_later, up_to, change_of, stands}
 use Rattle.safl_probe.proofs.Codes.{code_of}

@@ -1,17 +1,9 @@
 -- Why a run stopped, and what it left, stated from before it.
+use Rattle.safl_probe.proofs.Common.{AllGrow, AreApart, Asked, DriveErr, Files, Netlist, ProbeState, Relation, SameReads, ShelfState}
+use Rattle.safl_probe.proofs.Common.{TellsOn, Valuation, Word, probe_at, rose_later}
 use Rattle.std.proofs.Common.{◌≡◌, ℕ, List, map, Option, sym, subst, ◌∙◌}
-use Rattle.safl_word.specs.Words.{Word}
-use Rattle.safl_io.specs.Told.{TellsOn}
-use Rattle.safl_io.specs.Shelf.{Files, ShelfState, SameReads}
-use Rattle.safl_io.proofs.Telling.{rose_later}
-use Rattle.safl_net.specs.Netlist.{Netlist}
-use Rattle.safl_net.specs.Valuations.{Valuation}
-use Rattle.safl_probe.specs.Probing.{ProbeState}
-use Rattle.safl_probe.specs.Asked.{Asked, AreApart, probe_at}
-use Rattle.safl_probe.specs.Growth.{AllGrow, Relation}
 use Rattle.safl_probe.specs.Runs.{AreShown, IsRunOf, trace_at, until_done}
 use Rattle.safl_probe.specs.Stopping.{Stopped, SameProbes, KeepsProbes}
-use Rattle.safl_probe.specs.declared.drive_err.DriveErr.{DriveErr}
 use Rattle.safl_probe.specs.declared.drive_err.DriveErr.TheVariants as why
 
 -- a failure of a later part of a run, where the probes and the shelf were others at its beginning

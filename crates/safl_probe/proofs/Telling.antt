@@ -1,20 +1,13 @@
 -- Probes that are told of a moment, one after the other.
+use Rattle.safl_probe.proofs.Common.{DriveErr, Moment, Netlist, SameReads, ShelfState, Valuation, cases_eq, lower_or_last, rose_later}
 use Rattle.std.proofs.Common.{◌≡◌, ℕ, ◌+◌, ◌<◌, ◌≤◌, List, length, map, set, get_or, Option, Some, None, String, string_bytes, option_map, refl, sym, ap, subst, ◌∙◌, inl, inr, arith}
 use Rattle.std.specs.declared.alloc.Global.{Global}
 use Rattle.std.proofs.lemmas.List.{map-set, length-map, length-set, get_or-set_same, get_or-set_other, get_or-map}
-use Rattle.std.proofs.lemmas.Bool.{cases_eq}
-use Rattle.safl_word.proofs.Naturals.{lower_or_last}
 use Rattle.safl_io.specs.Counts.{Rose}
-use Rattle.safl_io.specs.Shelf.{ShelfState, SameReads}
-use Rattle.safl_io.proofs.Telling.{rose_later}
-use Rattle.safl_net.specs.Netlist.{Netlist}
-use Rattle.safl_net.specs.Valuations.{Valuation}
 use Rattle.safl_probe.specs.Probing.{ProbeState, HasFailed, Tells, fresh}
 use Rattle.safl_probe.specs.Asked.{Asked, IsAsked, SameUnasked, asked, probe_at}
 use Rattle.safl_probe.specs.Moments.{CanTell, text_at, state_at}
 use Rattle.safl_probe.specs.Stopping.{Blames, Stopped, SameProbes, KeepsProbes}
-use Rattle.safl_probe.specs.declared.moment.Moment.{Moment}
-use Rattle.safl_probe.specs.declared.drive_err.DriveErr.{DriveErr}
 use Rattle.safl_probe.specs.declared.drive_err.DriveErr.TheVariants as why
 
 module _ (P : Type 0) (st : P → ProbeState) where

@@ -1,13 +1,8 @@
 -- What entries tell, before a frame and after it.
+use Rattle.safl_probe.proofs.Common.{Entry, Netlist, ProbeState, Spot, Valuation, after_frame, begun, eqb-suc-zero}
 use Rattle.std.proofs.Common.{◌≡◌, ℕ, suc, ◌+◌, List, map, length, Option, Some, None, Bool, cond, sym, ap, subst, ◌∙◌, add-one}
-use Rattle.std.proofs.Math.Dec.{eqb-suc-zero}
-use Rattle.safl_net.specs.Netlist.{Netlist}
-use Rattle.safl_net.specs.Valuations.{Valuation}
 use Rattle.safl_probe.specs.Watching.{Watched, kind_of, seen, watched_by}
-use Rattle.safl_probe.specs.Probing.{ProbeState, begun, after_frame}
 use Rattle.safl_probe.specs.Entries.{watched_all, spot_of, watched_from, numbers, looked_all, told_of}
-use Rattle.safl_probe.specs.declared.entry.Entry.{Entry}
-use Rattle.safl_probe.specs.declared.entry.Spot.{Spot}
 use Rattle.safl_probe.specs.declared.stage.Stage.{Stage}
 use Rattle.safl_probe.specs.declared.stage.Stage.TheVariants as stage
 use Rattle.safl_probe.proofs.Spots.{drop_none, watched_spots, same_named, new_numbers}

@@ -1,12 +1,10 @@
 -- The files of a whole run, and of one that stopped.
+use Rattle.safl_probe.proofs.Common.{AllGrow, AreApart, Asked, Files, IsAsked, IsNetlist, Longer, LongerPart, Made, Netlist, OldOrPart}
+use Rattle.safl_probe.proofs.Common.{Shown, TellsOn, Text, Word, after_frames, cycle_texts, probe_at, trace}
 use Rattle.std.proofs.Common.{◌≡◌, ℕ, zero, suc, ◌+◌, ◌<◌, ◌≤◌, List, [], ◌∷◌, ◌++◌, length, take, drop, Option, Some, None, slice_get, slice_index}
 use Rattle.std.proofs.Common.{Bool, true, false, ◌==◌, if◌then◌else◌, codes, refl, sym, ap, ◌∙◌, append_assoc, arith}
 use Rattle.std.proofs.lemmas.List.{take-append-drop, length-take-le, append-nil, drop_all, length_push}
 use Rattle.std.proofs.lemmas.Option.{slice_get_within}
-use Rattle.safl_word.specs.Words.{Word}
-use Rattle.safl_io.specs.Told.{TellsOn}
-use Rattle.safl_io.specs.Shelf.{Files}
-use Rattle.safl_net.specs.Netlist.{Netlist}
 use Rattle.safl_net.specs.Runs.{RunFrom, GoesOn}
 use Rattle.safl_net.specs.Whole.{IsWhole}
 use Rattle.safl_net.specs.Valuations.{Valuation, IsAcyclic, read_output, next_state, reset_state}
@@ -16,14 +14,8 @@ use Rattle.safl_sim.specs.declared.done.Done.{Done}
 use Rattle.safl_run.specs.Calls.{Answers, cycles_of}
 use Rattle.safl_sim.proofs.OneCall.{only_run}
 use Rattle.safl_run.proofs.OneAnswer.{call_along, from_reset}
-use Rattle.safl_net.specs.Rules.{IsNetlist}
-use Rattle.safl_probe.specs.Texts.{Text, trace}
 use Rattle.safl_probe.specs.Probing.{ProbeState, Tells, begun, begin_text, finish_text}
-use Rattle.safl_probe.specs.Calls.{cycle_texts, after_frames}
-use Rattle.safl_probe.specs.Asked.{Asked, IsAsked, AreApart, probe_at}
-use Rattle.safl_probe.specs.Growth.{AllGrow, Made, Longer, LongerPart, OldOrPart}
 use Rattle.safl_probe.specs.Runs.{IsRunOf, until_done, trace_at}
-use Rattle.safl_probe.specs.Rounds.{Shown}
 use Rattle.safl_probe.proofs.Frames.{same_texts, same_finish, tells_frames, all_made, all_made_part, all_part_more, trace_parts, trace_whole}
 
 -- ---- the first cycles of a run

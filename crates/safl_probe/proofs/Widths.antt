@@ -1,9 +1,8 @@
 -- Words of the widths of signals.
+use Rattle.safl_probe.proofs.Common.{HasWidths, Word}
 use Rattle.std.proofs.Common.{◌≡◌, ℕ, zero, suc, ◌+◌, ◌<◌, ◌≤◌, List, [], ◌∷◌, ◌++◌, map, take, get_or, slice_get, length, refl, sym, ap, ◌∙◌, add-one, arith}
 use Rattle.std.proofs.lemmas.List.{length-map, map-append}
-use Rattle.safl_word.specs.Words.{Word}
 use Rattle.safl_net.specs.Netlist.{Netlist, Signal, width_in}
-use Rattle.safl_probe.specs.Rooms.{HasWidths}
 
 pub same_width : (gs : List Signal) (ws : List Word) (i : ℕ) (w : Word) → map (λ (w : Word). w.width) ws ≡ map (λ (g : Signal). g.width) gs → i <
     length ws → w ≡ get_or ws i w → w.width ≡ width_in (slice_get gs i)

@@ -1,9 +1,7 @@
 -- Bodies that are alike: functions may have other numbers, sites any, and calls of some sites are unfolded.
+use Rattle.safl_reshape.proofs.Common.{Primitive, Program, Word, arity}
 use Rattle.std.proofs.Common.{◌≡◌, ℕ, ◌+◌, Bool, true, false}
-use Rattle.safl_word.specs.Words.{Word}
-use Rattle.safl_word.specs.declared.primitive.Primitive.{Primitive}
 use Rattle.safl_term.specs.Terms.{Term, Const, Var, If, Let, Op, Call, Loop, Terms, Nil, Cons}
-use Rattle.safl_term.specs.Program.{Program, arity}
 use Rattle.safl_term.specs.Slots.{count}
 
 -- The first term stands in a body of C, and its function i is function j of the other where they are the same. The second

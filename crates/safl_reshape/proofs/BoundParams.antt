@@ -1,10 +1,7 @@
 -- Parameters with their arguments.
+use Rattle.safl_reshape.proofs.Common.{Binds, Bound, Param, Parameter, Tree, binds_of, shown_parameters, trees_of, zipped}
 use Rattle.std.proofs.Common.{◌≡◌, ℕ, ◌<◌, List, [], ◌∷◌, length, Some, refl, sym, ap, ◌∙◌, arith}
-use Rattle.safl_tree.specs.declared.tree.Param.{Param}
 use Rattle.safl_tree.specs.Tree as source
-use Rattle.safl_tree.specs.Tree.{Tree, Parameter, Bound, Binds, trees_of, binds_of}
-use Rattle.safl_tree.specs.Shown.{shown_parameters}
-use Rattle.safl_reshape.specs.Lists.{zipped}
 use Rattle.safl_reshape.specs.Reshaped.{bound_params, body_under}
 
 zip_binds : (ps : List Parameter) (ts : List Tree) → bound_params ps (trees_of ts) ≡ binds_of (zipped ps ts)

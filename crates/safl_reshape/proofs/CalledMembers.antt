@@ -1,17 +1,10 @@
 -- Whether an expression calls a member of its group, by its parts.
+use Rattle.safl_reshape.proofs.Common.{Arm, Bound, Callee, Known, Labelled, Primitive, Tree, arms_of, binds_of, callee, calls, calls_bound}
+use Rattle.safl_reshape.proofs.Common.{calls_in, calls_labelled, drop_read, shown_labelled, shown_tree, trees_of, ◌||◌}
 use Rattle.std.proofs.Common.{◌≡◌, ℕ, ◌+◌, ◌<◌, List, [], ◌∷◌, length, drop, get_or, Bool, true, false, refl, sym, ap, ◌∙◌}
-use Rattle.safl_word.proofs.Lists.{drop_read}
-use Rattle.safl_tree.specs.declared.tree.Arm.{Arm}
-use Rattle.safl_tree.specs.Shown.{shown_tree, shown_labelled}
-use Rattle.std.specs.Prelude.{◌||◌}
-use Rattle.safl_word.specs.declared.primitive.Primitive.{Primitive}
 use Rattle.safl_word.proofs.Booleans.{or_assoc}
 use Rattle.safl_tree.specs.Tree as source
-use Rattle.safl_tree.specs.Tree.{Tree, Bound, Labelled, trees_of, binds_of, arms_of}
 use Rattle.safl_typing.specs.Rewriting.{rewritten, rewritten_all, rewritten_binds, rewritten_arms}
-use Rattle.safl_typing.specs.Heads.{Known, Callee, callee}
-use Rattle.safl_reshape.specs.Changed.{calls, calls_in, calls_bound}
-use Rattle.safl_reshape.specs.Lists.{calls_labelled}
 
 arm_calls : (l v r : Bool) → ((false || (l || false)) || (v || r)) ≡ ((l || v) || r)
 arm_calls true v r = refl

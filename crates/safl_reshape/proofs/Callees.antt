@@ -1,31 +1,19 @@
 -- The callee of a site of a checked program.
+use Rattle.safl_reshape.proofs.Common.{CheckedProgram, Def, Definition, Head, IsChecked, Program, bytes_eq, calls, heads, heads_length}
+use Rattle.safl_reshape.proofs.Common.{is_member, name_in, or_parts, rewritten, shown_definitions, shown_tree, slice_get, slice_get_read}
 use Rattle.std.proofs.Common.{◌≡◌, ℕ, zero, suc, ◌<◌, List, [], ◌∷◌, length, map, get_or, Option, Some, None, Bool, false, refl, sym, ap, ◌∙◌, subst, arith}
-use Rattle.std.specs.Prelude.{slice_get}
 use Rattle.std.specs.List.{list_any}
-use Rattle.std.specs.Str.{bytes_eq}
-use Rattle.std.proofs.lemmas.Option.{slice_get_read}
-use Rattle.std.proofs.lemmas.Bool.{or_parts}
 use Rattle.safl_word.proofs.Lists.{get_some}
-use Rattle.safl_term.specs.Program.{Program}
-use Rattle.safl_term.specs.Checked.{CheckedProgram, IsChecked}
 use Rattle.safl_term.specs.Tables.{Tables, program_of}
 use Rattle.safl_term.proofs.HeldByChecked.{each_checked}
 use Rattle.safl_term.specs.declared.checked.Function.{Function}
-use Rattle.safl_tree.specs.declared.tree.Def.{Def}
-use Rattle.safl_tree.specs.Tree.{Definition}
-use Rattle.safl_tree.specs.Shown.{shown_tree, shown_definitions}
 use Rattle.safl_typing.specs.declared.heads.Head as code
 use Rattle.safl_typing.specs.PlainHeads.{shown_head, shown_heads, known}
-use Rattle.safl_typing.specs.Rewriting.{rewritten}
-use Rattle.safl_reshape.specs.Changed.{calls, is_member}
 use Rattle.safl_reshape.proofs.Putting.{def_shown}
-use Rattle.safl_typing.specs.Heads.{Head, heads}
 use Rattle.safl_typing.specs.Forms.{IsFormOf, shown_form, shown_function, function_names}
-use Rattle.safl_typing.proofs.Placing.{heads_length}
 use Rattle.safl_typing.proofs.Names.{not_seen}
 use Rattle.safl_typing.proofs.Walks.{as_many as lengths}
 use Rattle.safl_check.specs.Numbered.{program_in}
-use Rattle.safl_check.specs.Groups.{name_in}
 use Rattle.safl_reshape.specs.Reshaped.{Unjoined, IsCopyable, copy_name, calls_group, is_recursive}
 use Rattle.safl_reshape.specs.Refusals.{HasSite, joined_at, name_for, is_taken, MayCopy}
 use Rattle.safl_reshape.proofs.Standing.{here, unit_is}

@@ -1,14 +1,10 @@
 -- Calls that stay calls, and expressions in which nothing is changed.
+use Rattle.safl_reshape.proofs.Common.{Calls, HaveAll, Loop, Program, Term, Terms, arity, is_member, slice_get, widths_of}
 use Rattle.std.proofs.Common.{◌≡◌, ℕ, suc, ◌+◌, ◌<◌, List, length, Some, Bool, true, false, refl, sym, ap, ◌∙◌, subst, arith}
-use Rattle.std.specs.Prelude.{slice_get}
 use Rattle.safl_term.specs.Terms as terms
-use Rattle.safl_term.specs.Terms.{Term, Loop, Terms}
-use Rattle.safl_term.specs.Program.{Program, arity}
 use Rattle.safl_term.specs.Slots.{count}
 use Rattle.safl_typing.specs.Rewriting.{Expression, Number, Sized, Variable, If, Let, Op, Call, Expressions, no_expression, an_expression, Bindings, no_binding, a_binding}
 use Rattle.safl_typing.specs.Heads.{Slot, Head, Known, Callee, Member, Above, Unknown, callee, is_site, sites, sites_bound}
-use Rattle.safl_typing.specs.Typing.{widths_of, Calls, HaveAll}
-use Rattle.safl_reshape.specs.Changed.{is_member}
 use Rattle.safl_reshape.proofs.Alike.{alike_call, alike_loop}
 use Rattle.safl_reshape.proofs.Altered.{Alteration, altered, altered_all, altered_bound}
 use Rattle.safl_reshape.proofs.Moves.{MovedIn, AllMovedIn, CallsMove, have_count}

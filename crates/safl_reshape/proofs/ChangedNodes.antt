@@ -1,11 +1,9 @@
 -- Nodes from their changed parts, and the sites that are left after them.
+use Rattle.safl_reshape.proofs.Common.{Change, Primitive, changed, rewritten_all, rewritten_arms, rewritten_binds, sites_in_tree}
 use Rattle.std.proofs.Common.{◌≡◌, ℕ, ◌+◌, ◌-◌, List, sym, ap, ◌∙◌, arith}
-use Rattle.safl_word.specs.declared.primitive.Primitive.{Primitive}
 use Rattle.safl_tree.specs.Tree as source
 use Rattle.safl_tree.specs.Tree.{Tree, Bound, Labelled, trees_of, binds_of, arms_of}
-use Rattle.safl_typing.specs.Rewriting.{rewritten_all, rewritten_binds, rewritten_arms}
 use Rattle.safl_typing.specs.Heads.{Known, callee, is_site, sites, sites_in, sites_bound}
-use Rattle.safl_reshape.specs.Changed.{Change, changed, sites_in_tree}
 use Rattle.safl_reshape.specs.Lists.{sites_list, changed_list, sites_bounds, changed_bounds, sites_labelled, changed_labelled}
 use Rattle.safl_reshape.proofs.Listed.{arms_sites, bounds_sites, call_tree, case_tree, let_tree, list_sites, op_tree}
 

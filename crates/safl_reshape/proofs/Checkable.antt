@@ -1,8 +1,7 @@
 -- The checker refuses no printable program that has a form.
-use Rattle.std.proofs.Common.{List, sym, ◌∙◌, arith}
+use Rattle.safl_reshape.proofs.Common.{Definition, List, arith, sym, ◌∙◌}
 use Rattle.safl_word.specs.declared.fault.Fault.{Fault}
 use Rattle.safl_word.specs.Limits.{depth_max}
-use Rattle.safl_tree.specs.Tree.{Definition}
 use Rattle.safl_tree.specs.Laws.{PrintedSpells, SourcesAreShallow}
 use Rattle.safl_tree.specs.Printable.{IsFormedProgram, IsPrintable}
 use Rattle.safl_tree.specs.Printed.{printed}

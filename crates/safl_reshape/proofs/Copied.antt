@@ -1,19 +1,11 @@
 -- The form of a program in which a function is copied for the call of one site, and what it gives.
+use Rattle.safl_reshape.proofs.Common.{Change, Definition, Differ, Head, IsAlike, KeepsLimits, OneEvaluation, Program, changed_definitions}
+use Rattle.safl_reshape.proofs.Common.{functions_rise, heads, params_of, same_Some, unit_of}
 use Rattle.std.proofs.Common.{◌≡◌, ℕ, zero, suc, ◌+◌, ◌-◌, List, [], ◌∷◌, Some, refl, sym, ap, ◌∙◌, subst, arith, inr}
 use Rattle.std.specs.Prelude.{slice_get, codes}
-use Rattle.std.proofs.lemmas.Option.{same_Some}
-use Rattle.safl_term.specs.Program.{Program}
-use Rattle.safl_term.specs.Laws.{OneEvaluation}
-use Rattle.safl_tree.specs.Tree.{Definition}
-use Rattle.safl_typing.specs.Heads.{Head, unit_of, params_of, heads}
-use Rattle.safl_typing.specs.Typing.{Differ}
 use Rattle.safl_typing.specs.Forms.{FunctionForm, Form, all_sites, function_names, AreFunctionsOf, IsFormOf}
-use Rattle.safl_typing.proofs.Walks.{functions_rise}
 use Rattle.safl_check.specs.Numbered.{program_in}
-use Rattle.safl_reshape.specs.Changed.{Change, changed_definitions}
 use Rattle.safl_reshape.specs.Reshaped.{copying_call, put_behind, copy_of, Unjoined, IsCopyable}
-use Rattle.safl_reshape.specs.Limits.{KeepsLimits}
-use Rattle.safl_reshape.specs.Laws.{IsAlike}
 use Rattle.safl_reshape.proofs.Sites.{IsSiteIn, sites_map}
 use Rattle.safl_reshape.proofs.Standing.{here, function_sites, heads_differ, is_program, outer_is}
 use Rattle.safl_reshape.proofs.Meanings.{main_runs, main_ran, alike_at, params_at}

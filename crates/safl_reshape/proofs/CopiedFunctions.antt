@@ -1,17 +1,9 @@
 -- The functions of a program in which one is copied.
+use Rattle.safl_reshape.proofs.Common.{AreFunctionsOf, Definition, Expression, FunctionForm, Has, Head, IsFunctionOf, Program, Slot}
+use Rattle.safl_reshape.proofs.Common.{Unjoined, changed, changed_definitions, copy_of, copying_call, has_sites, long_let, own_call}
+use Rattle.safl_reshape.proofs.Common.{params_of, put_behind, rewritten, same_Some, sites, slice_get, unit_of}
 use Rattle.std.proofs.Common.{◌≡◌, ℕ, zero, suc, ◌+◌, ◌<◌, ◌≤◌, List, [], ◌∷◌, length, Some, None, Bool, true, false, cond, refl, sym, ap, ◌∙◌, subst, arith}
-use Rattle.std.specs.Prelude.{slice_get}
-use Rattle.std.proofs.lemmas.Option.{same_Some}
-use Rattle.safl_term.specs.Program.{Program}
-use Rattle.safl_tree.specs.Tree.{Definition}
-use Rattle.safl_typing.specs.Rewriting.{Expression, rewritten, long_let}
-use Rattle.safl_typing.specs.Heads.{Slot, Head, sites, unit_of, params_of}
-use Rattle.safl_typing.specs.Typing.{Has}
-use Rattle.safl_typing.specs.Forms.{FunctionForm, IsFunctionOf, AreFunctionsOf}
 use Rattle.safl_typing.proofs.Limits.{short_lets as lets_short, no_long_let}
-use Rattle.safl_typing.proofs.Counts.{has_sites}
-use Rattle.safl_reshape.specs.Changed.{changed, changed_definitions}
-use Rattle.safl_reshape.specs.Reshaped.{copying_call, own_call, put_behind, copy_of, Unjoined}
 use Rattle.safl_reshape.proofs.Alike.{Alike}
 use Rattle.safl_reshape.proofs.Altered.{altered, rewritten_changed}
 use Rattle.safl_reshape.proofs.Shorts.{short_altered, no_callee, calls_none}

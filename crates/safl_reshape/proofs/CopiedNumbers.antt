@@ -1,10 +1,7 @@
 -- What stands at which number where a function is copied, and that no site is spared.
+use Rattle.safl_reshape.proofs.Common.{Form, FunctionForm, Program, Term, Terms, Word}
 use Rattle.std.proofs.Common.{◌≡◌, ℕ, zero, suc, ◌<◌, ◌≤◌, List, [], ◌∷◌, length, refl, sym, ap, subst, arith, inl, inr}
-use Rattle.safl_word.specs.Words.{Word}
-use Rattle.safl_term.specs.Program.{Program}
-use Rattle.safl_term.specs.Terms.{Term, Terms}
 use Rattle.safl_term.specs.Meaning.{Gives, gives_const, gives_var, gives_op, gives_if, gives_let, gives_call, gives_loop, GivesAll, gives_nil, gives_cons}
-use Rattle.safl_typing.specs.Forms.{FunctionForm, Form}
 use Rattle.safl_check.specs.Numbered.{program_in}
 use Rattle.safl_reshape.specs.Executions.{executions, executions_all}
 use Rattle.safl_reshape.proofs.Meanings.{BothAt, both_there, both_past, both_at, kept_length}

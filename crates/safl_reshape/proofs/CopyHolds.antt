@@ -1,19 +1,14 @@
 -- What holds of the copy.
+use Rattle.safl_reshape.proofs.Common.{CheckedProgram, Definition, IsChecked, KeepsLimits, Program, formed_at, name_in}
 use Rattle.std.proofs.Common.{◌≡◌, ℕ, ◌<◌, ◌≤◌, ◌^◌, List, length, Option, false, sym, ap, ◌∙◌, subst, arith}
 use Rattle.safl_word.specs.Tokens.{IsSourceName}
-use Rattle.safl_term.specs.Program.{Program}
-use Rattle.safl_term.specs.Checked.{CheckedProgram, IsChecked}
-use Rattle.safl_tree.specs.Tree.{Definition}
 use Rattle.safl_tree.specs.Printable.{IsFormedProgram}
-use Rattle.safl_tree.proofs.Formed.{formed_at}
 use Rattle.safl_typing.specs.Forms.{Form, IsFormOf, shown_form}
 use Rattle.safl_typing.specs.Laws.{OneForm}
 use Rattle.safl_check.specs.Numbered.{program_in}
-use Rattle.safl_check.specs.Groups.{name_in}
 use Rattle.safl_reshape.specs.declared.error.ReshapeErr.{ReshapeErr}
 use Rattle.safl_reshape.specs.declared.error.ReshapeErr.TheVariants as errors
 use Rattle.safl_reshape.specs.Laws.{IsAlike, Spares, CopyIsAlike, UnfoldingSpares}
-use Rattle.safl_reshape.specs.Limits.{KeepsLimits}
 use Rattle.safl_reshape.specs.Reshaped.{copy_name, copied, copied_as, copied_under, unfolded, is_recursive}
 use Rattle.safl_reshape.specs.Refusals.{MayCopy, name_for, RefusesCopy, RefusesLimit, MayUnfold, RefusesUnfolding}
 use Rattle.safl_reshape.proofs.Callees.{copyable}

@@ -1,16 +1,12 @@
 -- Calls of a program in which a function is copied for the call of one site.
+use Rattle.safl_reshape.proofs.Common.{Program, Term, Terms, Trees, arity, copying_call, own_call, place_of, slice_get, ◌==◌}
 use Rattle.std.proofs.Common.{◌≡◌, ℕ, suc, ◌+◌, ◌<◌, ◌≤◌, List, [], length, Some, Bool, true, false, cond, refl, sym, ap, ◌∙◌, subst, arith, inl, inr, ◌⊎◌, ⊎_elim}
-use Rattle.std.specs.Prelude.{slice_get, ◌==◌}
 use Rattle.std.proofs.lemmas.Bool.{eqb-true, cases_lt}
 use Rattle.safl_term.specs.Terms as terms
-use Rattle.safl_term.specs.Terms.{Term, Terms}
-use Rattle.safl_term.specs.Program.{Program, arity}
 use Rattle.safl_term.specs.Slots.{count}
-use Rattle.safl_tree.specs.Tree.{Trees, place_of}
 use Rattle.safl_typing.specs.Rewriting.{Call, Expressions, rewritten, rewritten_all}
 use Rattle.safl_typing.specs.Heads.{Slot, Head, Callee, Member, Above, Unknown, callee}
 use Rattle.safl_typing.specs.Typing.{widths_of, Calls, HaveAll}
-use Rattle.safl_reshape.specs.Reshaped.{copying_call, own_call}
 use Rattle.safl_reshape.proofs.Altered.{Alteration, IsRewriting}
 use Rattle.safl_reshape.proofs.Shapes.{IsRigid}
 use Rattle.safl_reshape.proofs.Shorts.{IsShort, no_callee}

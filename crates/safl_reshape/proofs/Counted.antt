@@ -1,22 +1,13 @@
 -- Call sites and nodes of expressions, counted part by part.
+use Rattle.safl_reshape.proofs.Common.{Arm, Bind, Bound, Def, Definition, Expr, Labelled, Primitive, Tree, arms_of, binds_of, drop_read}
+use Rattle.safl_reshape.proofs.Common.{nodes_of, site_total, sites_bounds, sites_in_tree, sites_labelled, sites_list, trees_of}
 use Rattle.std.proofs.Common.{◌≡◌, ℕ, suc, ◌+◌, ◌<◌, List, [], ◌∷◌, length, drop, get_or, refl, sym, ap, ◌∙◌, arith, add-one}
-use Rattle.safl_word.specs.declared.primitive.Primitive.{Primitive}
-use Rattle.safl_word.proofs.Lists.{drop_read}
-use Rattle.safl_tree.specs.declared.tree.Expr.{Expr}
-use Rattle.safl_tree.specs.declared.tree.Bind.{Bind}
-use Rattle.safl_tree.specs.declared.tree.Arm.{Arm}
-use Rattle.safl_tree.specs.declared.tree.Def.{Def}
 use Rattle.safl_tree.specs.Tree as source
-use Rattle.safl_tree.specs.Tree.{Tree, Definition, Bound, Labelled, trees_of, binds_of, arms_of}
 use Rattle.safl_tree.specs.Shown.{shown_tree, shown_trees, shown_bounds, shown_labelled, shown_definition, shown_definitions}
 use Rattle.safl_typing.specs.Rewriting.{rewritten, rewritten_all, rewritten_binds, rewritten_arms, nodes, nodes_in, nodes_bound}
-use Rattle.safl_typing.specs.Forms.{nodes_of}
 use Rattle.safl_typing.specs.Heads.{Head, Known, unit_of, callee, is_site, sites, sites_in, sites_bound}
 use Rattle.safl_reshape.specs.declared.counts.Counts.{Counts}
-use Rattle.safl_reshape.specs.Changed.{sites_in_tree}
 use Rattle.safl_reshape.specs.Counting.{saturated, Adds, nodes_list, nodes_bounds, nodes_labelled}
-use Rattle.safl_reshape.specs.Limits.{site_total}
-use Rattle.safl_reshape.specs.Lists.{sites_list, sites_bounds, sites_labelled}
 use Rattle.safl_reshape.proofs.Listed.{list_sites, bounds_sites, arms_sites}
 
 -- ---- nodes by their lists

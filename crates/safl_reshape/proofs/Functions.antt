@@ -1,14 +1,8 @@
 -- The functions of a program whose calls are changed.
+use Rattle.safl_reshape.proofs.Common.{AreFunctionsOf, Definition, Expression, FunctionForm, Has, Head, IsFunctionOf, Program, Slot}
+use Rattle.safl_reshape.proofs.Common.{has_sites, long_let, params_of, rewritten, slice_get, unit_of}
 use Rattle.std.proofs.Common.{◌≡◌, ℕ, suc, ◌+◌, List, [], ◌∷◌, length, Some, None, Bool, true, false, cond, refl, sym, ap, ◌∙◌, subst, arith}
-use Rattle.std.specs.Prelude.{slice_get}
-use Rattle.safl_term.specs.Program.{Program}
-use Rattle.safl_tree.specs.Tree.{Definition}
-use Rattle.safl_typing.specs.Rewriting.{Expression, rewritten, long_let}
-use Rattle.safl_typing.specs.Heads.{Slot, Head, unit_of, params_of}
-use Rattle.safl_typing.specs.Typing.{Has}
-use Rattle.safl_typing.specs.Forms.{FunctionForm, IsFunctionOf, AreFunctionsOf}
 use Rattle.safl_typing.proofs.Limits.{short_lets as lets_short, no_long_let}
-use Rattle.safl_typing.proofs.Counts.{has_sites}
 use Rattle.safl_reshape.specs.Changed.{Change, changed, with_body, changed_definitions}
 use Rattle.safl_reshape.proofs.Alike.{Alike}
 use Rattle.safl_reshape.proofs.Altered.{Alteration, altered, IsRewriting, rewritten_changed}

@@ -1,10 +1,6 @@
 -- Definitions that have forms keep the limits on parameters and bindings.
+use Rattle.safl_reshape.proofs.Common.{AreFunctionsOf, Definition, FunctionForm, Head, no_long_let, rewritten, unit_of}
 use Rattle.std.proofs.Common.{ℕ, suc, List, [], ◌∷◌}
-use Rattle.safl_tree.specs.Tree.{Definition}
-use Rattle.safl_typing.specs.Rewriting.{rewritten}
-use Rattle.safl_typing.specs.Heads.{Head, unit_of}
-use Rattle.safl_typing.specs.Forms.{FunctionForm, AreFunctionsOf}
-use Rattle.safl_typing.proofs.Limits.{no_long_let}
 use Rattle.safl_reshape.specs.Limits.{KeepsLists}
 
 pub lists_kept : (all : List Head) (n u w lo hi : ℕ) (ds : List Definition) (fs : List FunctionForm) → AreFunctionsOf all n u w lo hi ds fs → KeepsLists ds

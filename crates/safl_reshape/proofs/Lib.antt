@@ -1,3 +1,4 @@
+mod Common
 pub mod Alike
 pub mod Runs
 pub mod Altered

@@ -1,9 +1,8 @@
 -- Changed calls in lists of expressions.
+use Rattle.safl_reshape.proofs.Common.{Primitive, rewritten_all, rewritten_arms, rewritten_binds}
 use Rattle.std.proofs.Common.{◌≡◌, ℕ, ◌+◌, List, [], ◌∷◌, refl, ap, ◌∙◌, arith}
-use Rattle.safl_word.specs.declared.primitive.Primitive.{Primitive}
 use Rattle.safl_tree.specs.Tree as source
 use Rattle.safl_tree.specs.Tree.{Tree, Bound, Labelled, Binds, trees_of, binds_of, arms_of}
-use Rattle.safl_typing.specs.Rewriting.{rewritten_all, rewritten_binds, rewritten_arms}
 use Rattle.safl_typing.specs.Heads.{Known, callee, is_site, sites, sites_in, sites_bound}
 use Rattle.safl_reshape.specs.Changed.{Change, changed, changed_all, changed_binds, changed_arms, sites_in_tree}
 use Rattle.safl_reshape.specs.Lists.{sites_list, changed_list, sites_bounds, changed_bounds, sites_labelled, changed_labelled}

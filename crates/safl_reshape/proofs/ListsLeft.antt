@@ -1,13 +1,7 @@
 -- Lists of the code, one item after another.
+use Rattle.safl_reshape.proofs.Common.{Arm, Bind, Bound, Def, Definition, Expr, Head, Known, Labelled, Tree, drop_read, unit_of}
 use Rattle.std.proofs.Common.{◌≡◌, ℕ, ◌+◌, ◌<◌, List, [], ◌∷◌, ◌++◌, length, map, drop, get_or, sym, ap, ◌∙◌, add-one}
-use Rattle.safl_word.proofs.Lists.{drop_read}
-use Rattle.safl_tree.specs.declared.tree.Expr.{Expr}
-use Rattle.safl_tree.specs.declared.tree.Bind.{Bind}
-use Rattle.safl_tree.specs.declared.tree.Arm.{Arm}
-use Rattle.safl_tree.specs.declared.tree.Def.{Def}
-use Rattle.safl_tree.specs.Tree.{Tree, Definition, Bound, Labelled}
 use Rattle.safl_tree.specs.Shown.{shown_tree, shown_trees, shown_bind, shown_bounds, shown_arm, shown_labelled, shown_definition, shown_definitions}
-use Rattle.safl_typing.specs.Heads.{Head, Known, unit_of}
 use Rattle.safl_reshape.specs.Changed.{Change, changed, sites_in_tree, with_body, changed_definitions}
 use Rattle.safl_reshape.specs.Lists.{sites_list, changed_list, sites_bounds, changed_bounds, sites_labelled, changed_labelled}
 use Rattle.safl_reshape.proofs.NextItems.{end_map}

@@ -1,15 +1,10 @@
 -- Programs whose functions are kept: what main gives.
+use Rattle.safl_reshape.proofs.Common.{Const, Form, FunctionForm, OneEvaluation, Program, Slot, arity, slice_get}
 use Rattle.std.proofs.Common.{◌≡◌, ℕ, zero, suc, ◌+◌, List, [], ◌∷◌, length, map, Some, None, Bool, refl, sym, ap, ◌∙◌, subst, arith}
-use Rattle.std.specs.Prelude.{slice_get}
 use Rattle.safl_word.specs.Words.{Word, no_word}
-use Rattle.safl_term.specs.Terms.{Const}
-use Rattle.safl_term.specs.Program.{Program, arity}
 use Rattle.safl_term.specs.Meaning.{Main, main_cost}
 use Rattle.safl_term.specs.WellFormed.{AreWordsOf}
-use Rattle.safl_term.specs.Laws.{OneEvaluation}
 use Rattle.safl_term.proofs.PlainTerms.{words_count}
-use Rattle.safl_typing.specs.Heads.{Slot}
-use Rattle.safl_typing.specs.Forms.{FunctionForm, Form}
 use Rattle.safl_check.specs.Numbered.{form_function, program_in}
 use Rattle.safl_reshape.specs.Executions.{executions}
 use Rattle.safl_reshape.proofs.Alike.{Alike, alike_const}

@@ -1,16 +1,13 @@
 -- What has a width and a term has them too where its calls are changed, after other slots, and from another first site on.
+use Rattle.safl_reshape.proofs.Common.{Cons, Const, Nil, Program, Term, Terms, Var, calls, calls_bound, calls_in, or_parts}
 use Rattle.std.proofs.Common.{◌≡◌, ℕ, suc, ◌+◌, List, [], ◌∷◌, ◌++◌, length, Bool, false, refl, sym, ap, ◌∙◌, subst, arith}
 use Rattle.std.proofs.lemmas.List.{append_assoc, length-append}
-use Rattle.std.proofs.lemmas.Bool.{or_parts}
 use Rattle.safl_term.specs.Terms as terms
-use Rattle.safl_term.specs.Terms.{Term, Const, Var, Terms, Nil, Cons}
-use Rattle.safl_term.specs.Program.{Program}
 use Rattle.safl_term.specs.Slots.{count}
 use Rattle.safl_typing.specs.Rewriting.{Expression, Number, Sized, Variable, If, Let, Op, Call, Expressions, no_expression, an_expression, Bindings, no_binding, a_binding, shape}
 use Rattle.safl_typing.specs.Heads.{Slot, Known, Callee, callee, is_site, sites, sites_bound}
 use Rattle.safl_typing.specs.Typing.{word, Differ, slots, Calls, Has, HaveAll, HaveBound}
 use Rattle.safl_typing.proofs.Counts.{called_sites, has_sites, have_sites_bound}
-use Rattle.safl_reshape.specs.Changed.{calls, calls_in, calls_bound}
 use Rattle.safl_reshape.proofs.Alike.{Alike, alike_const, alike_var, alike_op, alike_if, alike_let, AllAlike, none_alike, more_alike}
 use Rattle.safl_reshape.proofs.Altered.{Alteration, altered, altered_all, altered_bound}
 use Rattle.safl_reshape.proofs.Shapes.{IsRigid, names_same, slots_same, keeps_same, suits_same}

@@ -1,10 +1,8 @@
 -- Lets stay short where calls are changed into expressions with short lets. And who calls none.
+use Rattle.safl_reshape.proofs.Common.{Callee, Known, bindings_max, callee, calls, calls_bound, calls_in, is_site, sites, sites_bound}
 use Rattle.std.proofs.Common.{◌≡◌, ℕ, ◌+◌, ◌≤◌, List, Bool, false, refl, sym, subst, length}
 use Rattle.safl_typing.specs.Rewriting.{Expression, Number, Sized, Variable, If, Let, Op, Call, Expressions, no_expression, an_expression, Bindings, no_binding, a_binding}
-use Rattle.safl_typing.specs.Heads.{Known, Callee, callee, is_site, sites, sites_bound}
-use Rattle.safl_word.specs.Limits.{bindings_max}
 use Rattle.safl_typing.specs.Forms.{HasShortLets, HaveShortLets, HaveShortBound}
-use Rattle.safl_reshape.specs.Changed.{calls, calls_in, calls_bound}
 use Rattle.safl_reshape.proofs.Altered.{Alteration, altered, altered_all, altered_bound}
 use Rattle.safl_reshape.proofs.Shapes.{IsRigid, names_same}
 

@@ -1,9 +1,7 @@
 -- What holds of each site of a term.
+use Rattle.safl_reshape.proofs.Common.{Cons, Const, Loop, Nil, Program, Term, Terms, Var, slice_get}
 use Rattle.std.proofs.Common.{◌≡◌, ℕ, ◌<◌, List, [], ◌∷◌, ◌++◌, Some, Bool, sym, subst, arith}
-use Rattle.std.specs.Prelude.{slice_get}
 use Rattle.safl_term.specs.Terms as terms
-use Rattle.safl_term.specs.Terms.{Term, Const, Var, Loop, Terms, Nil, Cons}
-use Rattle.safl_term.specs.Program.{Program}
 use Rattle.safl_typing.specs.Rewriting.{Expression, Number, Sized, Variable, If, Let, Op, Call, Expressions, no_expression, an_expression, Bindings, no_binding, a_binding}
 use Rattle.safl_typing.specs.Heads.{Slot, Head, Known, Callee, Member, Above, Unknown, callee}
 use Rattle.safl_typing.specs.Typing.{slots, Calls, Has, HaveAll, HaveBound}

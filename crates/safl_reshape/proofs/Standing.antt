@@ -1,15 +1,8 @@
 -- The functions of a program that has a form.
+use Rattle.safl_reshape.proofs.Common.{Definition, Differ, Has, Program, Term, option_map, rewritten, same_Some, slice_get, widths_of}
 use Rattle.std.proofs.Common.{◌≡◌, ℕ, zero, suc, ◌+◌, List, [], ◌∷◌, length, Option, Some, true, refl, sym, ap, ◌∙◌, subst, arith}
-use Rattle.std.specs.Prelude.{slice_get}
-use Rattle.std.specs.Option.{option_map}
-use Rattle.std.proofs.lemmas.Option.{same_Some}
-use Rattle.safl_term.specs.Terms.{Term}
-use Rattle.safl_term.specs.Program.{Program}
 use Rattle.safl_term.specs.declared.checked.Site.{Site}
-use Rattle.safl_tree.specs.Tree.{Definition}
-use Rattle.safl_typing.specs.Rewriting.{rewritten}
 use Rattle.safl_typing.specs.Heads.{Slot, Head, unit_of, params_of, head_of, heads_from, heads}
-use Rattle.safl_typing.specs.Typing.{Differ, widths_of, Has}
 use Rattle.safl_typing.specs.Forms.{FunctionForm, Form, sites_of, all_sites, function_names, IsFunctionOf, AreFunctionsOf, IsFormOf}
 use Rattle.safl_check.specs.Numbered.{form_site, main_in, program_in}
 use Rattle.safl_reshape.proofs.Calls.{IsProgramOf, sees}

@@ -1,16 +1,11 @@
 -- Expressions that are the same but for their places: one has a width and a term where the other has it.
+use Rattle.safl_reshape.proofs.Common.{Arms, Binds, Known, Primitive, Slot, Terms, Tree, Trees, bindings_max, ◌&&◌}
 use Rattle.std.proofs.Common.{◌≡◌, ℕ, ◌+◌, ◌≤◌, List, [], ◌∷◌, ◌++◌, length, Option, Some, None, Bool, false, ◌⊎◌, inl, inr, refl, sym, ap, ◌∙◌, subst}
-use Rattle.std.specs.Prelude.{◌&&◌}
-use Rattle.safl_word.specs.declared.primitive.Primitive.{Primitive}
-use Rattle.safl_term.specs.Terms.{Terms}
-use Rattle.safl_word.specs.Limits.{bindings_max}
 use Rattle.safl_tree.specs.Tree as source
-use Rattle.safl_tree.specs.Tree.{Tree, Trees, Binds, Arms}
 use Rattle.safl_tree.specs.Places.{unplaced, unplaced_trees, unplaced_binds, unplaced_arms}
 use Rattle.safl_typing.specs.Rewriting.{Expression, Number, Sized, Variable, If, Let, Op, Call, Expressions, no_expression, an_expression, Bindings}
 use Rattle.safl_typing.specs.Rewriting.{no_binding, a_binding, Shape, Alike, Comparing, Shifting, Resizing, shape, flexible, all_flexible}
 use Rattle.safl_typing.specs.Rewriting.{takes_width, nodes, nodes_in, nodes_bound, rewritten, rewritten_all, rewritten_binds, rewritten_arms}
-use Rattle.safl_typing.specs.Heads.{Slot, Known}
 use Rattle.safl_typing.specs.Typing.{Differ, names, slots, KeepsWritten, AllRigid, RigidOr, Shifts, Suits, Has, HaveAll, HaveBound}
 use Rattle.safl_typing.specs.Forms.{HasShortLets, HaveShortLets, HaveShortBound}
 

@@ -1,23 +1,15 @@
 -- The form of a program in which the call of one site is replaced by the body of its callee, and what it gives.
+use Rattle.safl_reshape.proofs.Common.{Change, Definition, KeepsLimits, OneEvaluation, Parameter, Program, Spares, arity}
+use Rattle.safl_reshape.proofs.Common.{changed_definitions, functions_rise, has_sites, no_long_let, same_Some, site_total}
 use Rattle.std.proofs.Common.{◌≡◌, ℕ, zero, suc, ◌+◌, ◌-◌, ◌≤◌, List, [], ◌∷◌, length, Option, Some, None, Bool, true, false, cond, refl, sym, ap, ◌∙◌, subst, arith}
 use Rattle.std.specs.Prelude.{slice_get, ◌==◌, codes}
-use Rattle.std.proofs.lemmas.Option.{same_Some}
-use Rattle.safl_term.specs.Program.{Program, arity}
 use Rattle.safl_word.specs.Limits.{bindings_max, params_max}
-use Rattle.safl_term.specs.Laws.{OneEvaluation}
-use Rattle.safl_tree.specs.Tree.{Definition, Parameter}
 use Rattle.safl_typing.specs.Rewriting.{Expression, Call, Expressions, no_expression, an_expression, rewritten}
 use Rattle.safl_typing.specs.Heads.{Head, Member, Above, Unknown, unit_of, params_of, head_of, heads_from, heads}
 use Rattle.safl_typing.specs.Typing.{Differ, names}
 use Rattle.safl_typing.specs.Forms.{FunctionForm, Form, HasShortLets, HaveShortLets, HaveShortBound, all_sites, IsLast, function_names, AreFunctionsOf, IsFormOf}
-use Rattle.safl_typing.proofs.Limits.{no_long_let}
-use Rattle.safl_typing.proofs.Walks.{functions_rise}
-use Rattle.safl_typing.proofs.Counts.{has_sites}
 use Rattle.safl_check.specs.Numbered.{program_in}
-use Rattle.safl_reshape.specs.Changed.{Change, changed_definitions}
 use Rattle.safl_reshape.specs.Reshaped.{unfolding_call, unfolded, is_recursive}
-use Rattle.safl_reshape.specs.Limits.{site_total, KeepsLimits}
-use Rattle.safl_reshape.specs.Laws.{Spares}
 use Rattle.safl_reshape.proofs.Alike.{Alike}
 use Rattle.safl_reshape.proofs.Shorts.{IsShort}
 use Rattle.safl_reshape.proofs.Sites.{Sites, IsSiteIn, sites_map}

@@ -1,20 +1,16 @@
 -- A program in which the call of one site is replaced by the body of its callee.
+use Rattle.safl_reshape.proofs.Common.{Calls, HaveAll, Program, Term, Terms, calls, is_member, slice_get, widths_of, ◌==◌}
 use Rattle.std.proofs.Common.{◌≡◌, ℕ, suc, ◌+◌, ◌<◌, List, [], ◌∷◌, length, Option, Some, None, Bool, true, false, cond, refl, sym, ap, ◌∙◌, subst, arith}
-use Rattle.std.specs.Prelude.{slice_get, ◌==◌}
 use Rattle.std.proofs.lemmas.Bool.{eq-eqb, eqb-true, ne_eqb}
 use Rattle.safl_term.specs.Terms as terms
-use Rattle.safl_term.specs.Terms.{Term, Terms}
-use Rattle.safl_term.specs.Program.{Program}
 use Rattle.safl_term.specs.Slots.{count}
 use Rattle.safl_tree.specs.Tree as source
 use Rattle.safl_tree.specs.Tree.{Definition, Parameter, Trees, place_of}
 use Rattle.safl_typing.specs.Rewriting.{Expression, Call, Expressions, flexible, rewritten, rewritten_all, rewritten_binds}
 use Rattle.safl_typing.specs.Heads.{Slot, Head, Callee, Member, Above, Unknown, callee, heads}
-use Rattle.safl_typing.specs.Typing.{widths_of, Calls, HaveAll}
 use Rattle.safl_typing.specs.Forms.{Form, IsFormOf}
 use Rattle.safl_typing.proofs.Complete.{length_widths}
 use Rattle.safl_check.specs.Numbered.{program_in}
-use Rattle.safl_reshape.specs.Changed.{is_member, calls}
 use Rattle.safl_reshape.specs.Reshaped.{bound_params, body_under, unfolded_as, unfolding_call, calls_group, is_recursive}
 use Rattle.safl_reshape.proofs.Altered.{Alteration, IsRewriting}
 use Rattle.safl_reshape.proofs.Shapes.{IsRigid}

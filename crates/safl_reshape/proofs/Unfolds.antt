@@ -1,15 +1,12 @@
 -- A call that is replaced by the body of its callee.
+use Rattle.safl_reshape.proofs.Common.{Cons, Nil, Parameter, Program, Term, Terms, Var, calls, is_member}
 use Rattle.std.proofs.Common.{◌≡◌, ℕ, zero, suc, ◌+◌, ◌<◌, List, [], ◌∷◌, ◌++◌, length, map, Some, Bool, true, false, refl, sym, ap, ◌∙◌, subst, arith}
 use Rattle.std.proofs.lemmas.List.{length-append, append-nil}
 use Rattle.safl_term.specs.Terms as terms
-use Rattle.safl_term.specs.Terms.{Term, Var, Terms, Nil, Cons}
-use Rattle.safl_term.specs.Program.{Program}
 use Rattle.safl_term.specs.Slots.{count}
-use Rattle.safl_tree.specs.Tree.{Parameter}
 use Rattle.safl_typing.specs.Rewriting.{Expression, Variable, Let, Expressions, no_expression, an_expression, Bindings, no_binding, a_binding}
 use Rattle.safl_typing.specs.Heads.{Slot, Head, Known, slot_of}
 use Rattle.safl_typing.specs.Typing.{Differ, names, slots, widths_of, innermost, Has, HaveAll, HaveBound}
-use Rattle.safl_reshape.specs.Changed.{is_member, calls}
 use Rattle.safl_reshape.specs.Reshaped.{result_name}
 use Rattle.safl_reshape.proofs.Alike.{Alike, alike_unfolded, alike_bare}
 use Rattle.safl_reshape.proofs.Scopes.{seen_behind}

@@ -1,13 +1,12 @@
 -- Programs that are the same but for their places: they have the same form, and are as deep.
+use Rattle.safl_reshape.proofs.Common.{Differ, Has, rewritten}
 use Rattle.std.proofs.Common.{◌≡◌, ℕ, suc, ◌+◌, ◌≤◌, List, [], ◌∷◌, length, map, true, refl, sym, ap, ◌∙◌, subst, arith}
 use Rattle.std.specs.Prelude.{codes}
 use Rattle.std.specs.List.{AllByRecursion}
 use Rattle.safl_tree.specs.Tree.{Tree, Number, Sized, Variable, If, Let, Cases, Op, Call, Trees, no_tree, a_tree, Binds, no_bind, a_bind, Arms}
 use Rattle.safl_tree.specs.Tree.{default_arm, an_arm, Parameter, Definition, depth, deepest, deepest_bind, deepest_arm}
 use Rattle.safl_tree.specs.Places.{unplaced, unplaced_trees, unplaced_binds, unplaced_arms, unplaced_parameter, unplaced_program}
-use Rattle.safl_typing.specs.Rewriting.{rewritten}
 use Rattle.safl_typing.specs.Heads.{Slot, Head, Known, unit_of, slot_of, params_of, head_of, heads_from, heads}
-use Rattle.safl_typing.specs.Typing.{Differ, Has}
 use Rattle.safl_typing.specs.Forms.{FunctionForm, Form, nodes_of, param_names, IsFunctionOf, AreFunctionsOf, IsLast, function_names, IsFormOf}
 use Rattle.safl_word.specs.Limits.{params_max, functions_max, nodes_max}
 use Rattle.safl_typing.proofs.Limits.{short_lets as lets_short, no_long_let}

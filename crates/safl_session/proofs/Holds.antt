@@ -1,19 +1,14 @@
 -- A session that is held call by call.
+use Rattle.safl_session.proofs.Common.{AreWords, FitWidths, IsSilent, Netlist, Replies, TellsOn, Word, slice_get_within}
 use Rattle.std.proofs.Common.{◌≡◌, ℕ, ◌+◌, ◌≤◌, List, [], ◌∷◌, ◌++◌, length, take, drop, Bool, true, false, if◌then◌else◌, Some, slice_get, slice_index, sym, ap, subst, ◌∙◌, arith, append_assoc}
 use Rattle.std.proofs.lemmas.Bool.{eq-eqb, ne_eqb}
 use Rattle.std.proofs.lemmas.List.{append-nil, take-append-drop, length-take-le, take_all}
 use Rattle.std.proofs.lemmas.List.Elements.{All-drop}
-use Rattle.std.proofs.lemmas.Option.{slice_get_within}
 use Rattle.safl_io.specs.Sink.{SinkState, Sends, SendsPart}
-use Rattle.safl_io.specs.Told.{TellsOn}
-use Rattle.safl_word.specs.Words.{Word, AreWords}
 use Rattle.safl_word.proofs.Lists.{take_next}
-use Rattle.safl_net.specs.Laws.{FitWidths}
-use Rattle.safl_net.specs.Netlist.{Netlist}
 use Rattle.safl_net.specs.Arguments.{AreArguments}
 use Rattle.safl_sim.specs.declared.done.Done.{Done as Reply}
 use Rattle.safl_session.specs.Laws.{AreCallsOf}
-use Rattle.safl_run.specs.Calls.{Replies, IsSilent}
 use Rattle.safl_session.specs.Replies.{AreReplies, AllReply}
 use Rattle.safl_session.specs.Sessions.{Opened}
 use Rattle.safl_session.proofs.OneListOfReplies.{replies_exist, replies_join, all_more}

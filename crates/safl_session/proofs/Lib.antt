@@ -1,3 +1,4 @@
+mod Common
 pub mod PiecesOfText
 pub mod WordsOfLines
 pub mod LinesOfScripts

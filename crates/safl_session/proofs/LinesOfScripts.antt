@@ -1,12 +1,10 @@
 -- The lines of a script, read one after the other.
+use Rattle.safl_session.proofs.Common.{Word, get_in_front, get_seam, lower_same_higher}
 use Rattle.std.proofs.Common.{◌≡◌, ℕ, zero, suc, ◌+◌, ◌-◌, ◌*◌, ◌<◌, ◌≤◌, ◌⊎◌, List, [], ◌∷◌, ◌++◌, length, take, drop, Some, slice_get, Bool, true}
 use Rattle.std.proofs.Common.{false, ◌==◌, refl, sym, ap, subst, ◌∙◌, arith, inl, inr, append_assoc, add-one}
 use Rattle.std.proofs.lemmas.Bool.{eqb-true, true≢false}
 use Rattle.std.proofs.lemmas.List.{append-nil, length-drop, drop-drop, take_all, take-append-le, drop-append-le, length-append}
 use Rattle.std.proofs.Math.Nat.{mul-le-mul_right, suc-mul, zero-mul}
-use Rattle.safl_word.specs.Words.{Word}
-use Rattle.safl_word.proofs.Lists.{get_in_front, get_seam}
-use Rattle.safl_word.proofs.Naturals.{lower_same_higher}
 use Rattle.safl_session.specs.declared.script.ScriptErr.{ScriptErr}
 use Rattle.safl_session.specs.Pieces.{HasLines, IsCut}
 use Rattle.safl_session.specs.Lines.{IsCall, AppendsCall, ScriptFault, HasScriptFault, RefusesLine}

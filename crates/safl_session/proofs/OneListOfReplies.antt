@@ -1,10 +1,6 @@
 -- There is one list of replies to calls.
+use Rattle.safl_session.proofs.Common.{All-head, All-tail, AllReply, AreReplies, AreWords, FitWidths, IsNetlist, Netlist, Word}
 use Rattle.std.proofs.Common.{◌≡◌, ℕ, List, [], ◌∷◌, ◌++◌, Option, Some, None, refl, sym, ap, subst, ◌∙◌}
-use Rattle.std.proofs.lemmas.List.Elements.{All-head, All-tail}
-use Rattle.safl_word.specs.Words.{Word, AreWords}
-use Rattle.safl_net.specs.Laws.{FitWidths}
-use Rattle.safl_net.specs.Netlist.{Netlist}
-use Rattle.safl_net.specs.Rules.{IsNetlist}
 use Rattle.safl_net.specs.Valuations.{IsAcyclic}
 use Rattle.safl_net.specs.Whole.{IsWhole}
 use Rattle.safl_net.specs.Arguments.{AreArguments}
@@ -12,7 +8,6 @@ use Rattle.safl_sim.specs.declared.done.Done.{Done as Reply}
 use Rattle.safl_run.specs.Calls.{Answers, Replies}
 use Rattle.safl_run.proofs.OneAnswer.{answered, answers_along, once, replies_once as reply_once}
 use Rattle.safl_session.specs.Laws.{AreCallsOf, RepliesExist, RepliesOnce, RepliesJoin}
-use Rattle.safl_session.specs.Replies.{AreReplies, AllReply}
 
 -- equal states give the same replies
 are_along : (n : Netlist) (limit : ℕ) (state other : ℕ → ℕ) (calls : List (List Word)) (rs : List Reply) → ((s : ℕ) → state s ≡ other s) → AreReplies

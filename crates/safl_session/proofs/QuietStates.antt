@@ -1,21 +1,16 @@
 -- Whether registers are quiet is said by the state alone.
+use Rattle.safl_session.proofs.Common.{Choice, Names, Program, Quiet, Scheme, place_at}
 use Rattle.std.proofs.Common.{◌≡◌, ℕ, zero, suc, List, [], ◌∷◌, Option, None, Some, Bool, true, false, cond, ◌&&◌, refl, sym, ap, ◌∙◌, subst, inl, inr, ⊎_elim, arith, bytes_eq}
-use Rattle.safl_term.specs.Names.{Names}
 use Rattle.std.specs.Prelude.{slice_get, slice_index, codes}
 use Rattle.std.proofs.lemmas.Slice.Eq.{bytes_eq-Decides}
 use Rattle.std.proofs.lemmas.Bool.{and_parts, ltb-true, leb-true, lt-ltb}
 use Rattle.safl_word.proofs.Booleans.{never_both}
-use Rattle.safl_term.specs.Program.{Program}
 use Rattle.safl_net.specs.Netlist.{Netlist, Signal, Kind, Input, Reg, Wire, place}
 use Rattle.safl_net.specs.Valuations.{Valuation, Fits, Holds, number_at, read, reset_state}
-use Rattle.safl_sites.specs.Plan.{Choice}
 use Rattle.safl_circuit.specs.Names.{of_function, of_site, one, is_unit, is_site, registers_now}
 use Rattle.safl_circuit.specs.Layout.{Line, lines, member_lines, unit_lines, site_lines, layout_registers, register_kind, each_line, IsLineOf}
-use Rattle.safl_circuit.specs.Scheme.{Scheme}
-use Rattle.safl_circuit.specs.Steps.{Quiet}
 use Rattle.safl_circuit.specs.Correct.{IsQuietState}
 use Rattle.safl_circuit.proofs.Laid.{has_left, has_right, lines_has, has_side}
-use Rattle.safl_sim.proofs.Names.{place_at}
 use Rattle.safl_session.specs.Circuits.{ResetIsQuiet}
 use Rattle.std.specs.Option.{option_map_or}
 

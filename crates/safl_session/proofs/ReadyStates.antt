@@ -1,12 +1,8 @@
 -- The calls of a session that have their replies, and the lines of these.
+use Rattle.safl_session.proofs.Common.{All, All-head, All-tail, AllReply, AreReplies, Netlist, Word}
 use Rattle.std.proofs.Common.{◌≡◌, ℕ, zero, suc, ◌+◌, List, [], ◌∷◌, ◌++◌, length, take, drop, Some, slice_get, refl, sym, ap, subst, ◌∙◌, arith, append_assoc}
-use Rattle.std.specs.Prelude.{All}
 use Rattle.std.proofs.lemmas.List.{append-nil}
-use Rattle.std.proofs.lemmas.List.Elements.{All-head, All-tail}
-use Rattle.safl_word.specs.Words.{Word}
-use Rattle.safl_net.specs.Netlist.{Netlist}
 use Rattle.safl_sim.specs.declared.done.Done.{Done as Reply}
-use Rattle.safl_session.specs.Replies.{AreReplies, AllReply}
 use Rattle.safl_session.specs.Transcripts.{reply_line, reply_lines}
 
 -- ---- lists

@@ -1,8 +1,7 @@
 -- What is sent after something that was sent.
+use Rattle.safl_session.proofs.Common.{Sends, SendsPart, TellsOn}
 use Rattle.std.proofs.Common.{◌≡◌, ℕ, List, ◌++◌, length, take, drop, Option, Some, None, refl, sym, ap, ◌∙◌, append_assoc}
 use Rattle.std.proofs.lemmas.List.{take-append-drop, take_at}
-use Rattle.safl_io.specs.Sink.{Sends, SendsPart}
-use Rattle.safl_io.specs.Told.{TellsOn}
 
 pub both_sent : (a b : List ℕ) (old mid new : Option (List ℕ)) → TellsOn (Sends a) old mid → TellsOn (Sends b) mid new → TellsOn (Sends (a ++ b)) old new
 both_sent a b None mid new p q = tt

@@ -1,33 +1,22 @@
 -- A circuit serves one call after another.
+use Rattle.safl_session.proofs.Common.{All, All-head, All-tail, AreReplies, Choice, FitWidths, IsNetlist, IsSilent, Names, Program, Quiet}
+use Rattle.safl_session.proofs.Common.{Replies, Scheme, get_seam, place_at}
 use Rattle.std.proofs.Common.{◌≡◌, ℕ, suc, ◌+◌, List, [], ◌∷◌, ◌++◌, length, Some, slice_get, slice_index, refl, sym, ap, subst, ◌∙◌, arith, codes}
-use Rattle.safl_term.specs.Names.{Names}
-use Rattle.std.specs.Prelude.{All}
 use Rattle.std.proofs.lemmas.Nat.{pow_pos}
-use Rattle.std.proofs.lemmas.List.Elements.{All-head, All-tail}
 use Rattle.safl_word.specs.Words.{Word, as_word}
-use Rattle.safl_word.proofs.Lists.{get_seam}
-use Rattle.safl_term.specs.Program.{Program}
 use Rattle.safl_term.specs.WellFormed.{AreWordsOf}
 use Rattle.safl_term.proofs.Fuelled.{agree_to}
-use Rattle.safl_net.specs.Laws.{FitWidths}
 use Rattle.safl_net.specs.Making.{kind_at, kind_in}
 use Rattle.safl_net.specs.Netlist.{Netlist, Input, output_place}
-use Rattle.safl_net.specs.Rules.{IsNetlist}
 use Rattle.safl_net.specs.Runs.{RunFrom, GoesOn, start_number}
 use Rattle.safl_net.specs.Valuations.{Valuation, Fits, next_state, number_at, read_output}
 use Rattle.safl_net.specs.Whole.{IsWhole, HasStart}
 use Rattle.safl_net.proofs.Existence.{exactly_one}
 use Rattle.safl_sim.proofs.Giving.{bits}
-use Rattle.safl_sim.proofs.Names.{place_at}
-use Rattle.safl_sites.specs.Plan.{Choice}
 use Rattle.safl_circuit.specs.Names.{registers_now, registers_next}
-use Rattle.safl_circuit.specs.Scheme.{Scheme}
-use Rattle.safl_circuit.specs.Steps.{Quiet}
 use Rattle.safl_circuit.specs.Correct.{IsQuietState, IsResult, DoneIn, latest}
 use Rattle.safl_circuit.specs.Theorem.{IsCircuit, Runs}
 use Rattle.safl_sim.specs.declared.done.Done.{Done as Reply}
-use Rattle.safl_run.specs.Calls.{Replies, IsSilent}
-use Rattle.safl_session.specs.Replies.{AreReplies}
 use Rattle.safl_session.specs.Circuits.{IsMainReply, StartsQuiet, Serves, IsInTime, BudgetsAreInTime, CircuitsServe, CircuitsReply}
 use Rattle.safl_run.proofs.OneAnswer.{last_fits}
 use Rattle.safl_session.proofs.QuietStates.{quiet_in, quiet_of, quiet_alike}

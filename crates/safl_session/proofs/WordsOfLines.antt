@@ -1,13 +1,10 @@
 -- The words of a line, read one after the other.
+use Rattle.safl_session.proofs.Common.{Word, get_in_front, get_seam, lower_same_higher, slice_get_within}
 use Rattle.std.proofs.Common.{◌≡◌, ℕ, zero, suc, ◌+◌, ◌<◌, ◌≤◌, ◌⊎◌, List, [], ◌∷◌, ◌++◌, length, Option, Some, None, Bool, true, false, not}
 use Rattle.std.proofs.Common.{slice_get, refl, sym, ap, subst, ◌∙◌, arith, inl, inr, append_assoc}
 use Rattle.std.specs.Prelude.{◌≢◌, is_some}
 use Rattle.std.proofs.lemmas.Bool.{true≢false, false≢true}
 use Rattle.std.proofs.lemmas.List.{append-nil, length-append}
-use Rattle.std.proofs.lemmas.Option.{slice_get_within}
-use Rattle.safl_word.specs.Words.{Word}
-use Rattle.safl_word.proofs.Lists.{get_in_front, get_seam}
-use Rattle.safl_word.proofs.Naturals.{lower_same_higher}
 use Rattle.safl_session.specs.Pieces.{HasWords, Blank, StartsWith}
 use Rattle.safl_session.specs.Lines.{IsArgument, AreArguments, IsCall, AppendsCall, HaveMisfit, ScriptFault, Count, Argument, HasScriptFault}
 use Rattle.safl_session.proofs.PiecesOfText.{words_once, blank_words, first_word, behind_long}

@@ -1,11 +1,7 @@
 -- What a walk down a term requires of its parts.
+use Rattle.safl_sites.proofs.Common.{Call, Cons, If, Keeping, Let, Loop, Op, Primitive, Program, SiteSet, Term, Terms, Var}
 use Rattle.std.proofs.Common.{◌≡◌, ℕ, ◌+◌, ◌<◌, List, length, length-append, sym, subst, ap, arith}
 use Rattle.std.proofs.lemmas.Option.{slice_get_within}
-use Rattle.safl_word.specs.declared.primitive.Primitive.{Primitive}
-use Rattle.safl_term.specs.Program.{Program}
-use Rattle.safl_term.specs.Terms.{Term, Terms, Var, Op, If, Let, Call, Loop, Cons}
-use Rattle.safl_sites.specs.declared.keep.Keeping.{Keeping}
-use Rattle.safl_sites.specs.declared.site_set.SiteSet.{SiteSet}
 use Rattle.safl_sites.specs.Keeping.{MayKeep, MayKeepIn, Binds}
 use Rattle.safl_sites.specs.Parts.{IsPart, terms_in}
 use Rattle.safl_sites.proofs.PartsOfParts.{may_cond, may_then, may_else, may_bound, may_body, may_op, may_args, may_loop, may_first, may_rest}

@@ -1,7 +1,5 @@
 -- What joins in steps joins as a whole.
-use Rattle.std.proofs.Common.{◌≡◌, ◌⊎◌, inl, inr, sym, subst}
-use Rattle.safl_term.specs.Terms.{Term}
-use Rattle.safl_sites.specs.SiteSets.{Adds}
+use Rattle.safl_sites.proofs.Common.{Adds, Term, inl, inr, subst, sym, ◌≡◌, ◌⊎◌}
 
 pub adds_then : {A B D P Q : Type 0} → Adds A B P → Adds B D Q → Adds A D (P ⊎ Q)
 adds_then x y = record {

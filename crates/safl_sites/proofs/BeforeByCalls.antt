@@ -1,18 +1,11 @@
 -- What comes before a site comes before it in its own body, or before a site that calls its function's unit.
+use Rattle.safl_sites.proofs.Common.{Adds, Call, CheckedProgram, Cons, Const, Has, HasAt, If, IsChecked, IsSpread, Let, Loop, Nil, Op}
+use Rattle.safl_sites.proofs.Common.{Program, SiteSet, Term, Terms, Var, cases_eq, get_or-set_at, get_or-set_other, no_set, unit_for}
 use Rattle.std.proofs.Common.{◌≡◌, ℕ, suc, ◌<◌, ◌≤◌, ◌⊎◌, List, length-set, get_or, slice_set, refl, sym, ap, subst, ◌∙◌, inl, inr, arith}
-use Rattle.std.proofs.lemmas.Bool.{cases_eq}
-use Rattle.std.proofs.lemmas.Grind.{get_or-set_at}
-use Rattle.std.proofs.lemmas.List.{get_or-set_other}
-use Rattle.safl_term.specs.Checked.{CheckedProgram, IsChecked}
-use Rattle.safl_term.specs.Program.{Program, unit_for}
 use Rattle.safl_term.specs.Standing.{Stands, StandsIn}
-use Rattle.safl_term.specs.Terms.{Term, Terms, Const, Var, Op, If, Let, Call, Loop, Nil, Cons}
-use Rattle.safl_sites.specs.declared.site_set.SiteSet.{SiteSet}
 use Rattle.safl_sites.specs.Conflicts.{Reaches, Here, Through}
 use Rattle.safl_sites.specs.Filling.{StandsAfter}
 use Rattle.safl_sites.specs.Parallel.{After, AfterIn, Before, BeforeIn, ComesBefore}
-use Rattle.safl_sites.specs.SiteSets.{Has, HasAt, Adds, no_set}
-use Rattle.safl_sites.specs.Spreading.{IsSpread}
 use Rattle.safl_sites.proofs.SetsJoined.{set_more}
 use Rattle.safl_sites.proofs.NumbersFollow.{IsSited, sited, site_of_body, later_site, lower_before}
 use Rattle.safl_sites.proofs.ReachBySites.{Hits, reaches_in_by, reaches_in_of}

@@ -1,12 +1,6 @@
 -- One more site among those that were looked at for conflicts.
+use Rattle.safl_sites.proofs.Common.{ArePeers, Collides, IsCollected, Program, SiteSet, cases_eq, get_or-set_at, get_or-set_other, unit_for}
 use Rattle.std.proofs.Common.{◌≡◌, ℕ, suc, ◌<◌, ◌≤◌, Bool, true, false, List, length-set, get_or, slice_set, refl, sym, ap, subst, ◌∙◌, inl, inr, arith}
-use Rattle.std.proofs.lemmas.Bool.{cases_eq}
-use Rattle.std.proofs.lemmas.Grind.{get_or-set_at}
-use Rattle.std.proofs.lemmas.List.{get_or-set_other}
-use Rattle.safl_term.specs.Program.{Program, unit_for}
-use Rattle.safl_sites.specs.declared.site_set.SiteSet.{SiteSet}
-use Rattle.safl_sites.specs.Collecting.{Collides, IsCollected}
-use Rattle.safl_sites.specs.Peers.{ArePeers}
 use Rattle.safl_sites.specs.Planned.{BeforeTable}
 use Rattle.safl_sites.specs.SiteSets.{Has, Adds, IsCommon, Meets, no_set}
 

@@ -1,7 +1,5 @@
 -- Sites conflict where one comes before the other.
-use Rattle.std.proofs.Common.{◌≡◌, ℕ, ◌⊎◌, inl, inr}
-use Rattle.safl_term.specs.Program.{Program, unit_for}
-use Rattle.safl_term.specs.Terms.{Term, Terms, Const, Var, Op, If, Let, Call, Loop, Nil, Cons}
+use Rattle.safl_sites.proofs.Common.{Call, Cons, Const, If, Let, Loop, Nil, Op, Program, Term, Terms, Var, inl, inr, unit_for, ℕ, ◌≡◌, ◌⊎◌}
 use Rattle.safl_sites.specs.Conflicts.{Apart, ApartIn, Conflict}
 use Rattle.safl_sites.specs.Parallel.{Before, BeforeIn, ComesBefore}
 

@@ -1,20 +1,14 @@
 -- What a walk down a term finds, by its parts.
+use Rattle.safl_sites.proofs.Common.{IsTouched, Keeping, Primitive, Program, SiteSet, Word, bool_at}
 use Rattle.std.proofs.Common.{◌≡◌, ℕ, zero, suc, ◌+◌, ◌-◌, ◌≤◌, ◌⊎◌, ◌||◌, Bool, true, false, List, [], ◌∷◌, ◌++◌, length, get_or, refl, sym, ap, subst, ◌∙◌, inl, inr, arith, eq-eqb}
 use Rattle.std.proofs.Math.Seq.{get_or-append_right}
 use Rattle.std.proofs.lemmas.Bool.{eqb-true, both_ways, false_from_ne_true}
 use Rattle.std.specs.Cmp.{both_ways as same_bool}
 use Rattle.std.proofs.lemmas.List.{append-nil}
-use Rattle.safl_word.specs.Words.{Word}
-use Rattle.safl_word.specs.declared.primitive.Primitive.{Primitive}
-use Rattle.safl_word.specs.Lists.{bool_at}
-use Rattle.safl_term.specs.Program.{Program}
 use Rattle.safl_term.specs.Terms.{Term, Terms, Const, Var, Op, If, Let, Call, Loop, Nil, Cons}
-use Rattle.safl_sites.specs.declared.keep.Keeping.{Keeping}
-use Rattle.safl_sites.specs.declared.site_set.SiteSet.{SiteSet}
 use Rattle.safl_sites.specs.Keeping.{fed_by, IsHeld, IsHeldIn, IsHeldHere, Walks, WalksIn, Binds}
 use Rattle.safl_sites.specs.Kept.{feeds, feeds_any, feeds_each, Uses, Decides, Held}
 use Rattle.safl_sites.specs.SiteSets.{has, Has, HasAt, Adds, no_set}
-use Rattle.safl_sites.specs.Touched.{IsTouched}
 use Rattle.safl_sites.proofs.AddsInSteps.{adds_then, adds_as, adds_none}
 use Rattle.safl_sites.proofs.SetsByWords.{no_set_has}
 

@@ -1,12 +1,8 @@
 -- What a walk finds, under other names of the slots and the term.
+use Rattle.safl_sites.proofs.Common.{Adds, Keeping, Program, SiteSet, Term, Terms}
 use Rattle.std.proofs.Common.{◌≡◌, ℕ, List, [], ◌∷◌, ◌++◌, length, subst, refl, sym, ap, ◌∙◌}
 use Rattle.std.specs.List.{insert}
-use Rattle.safl_term.specs.Program.{Program}
-use Rattle.safl_term.specs.Terms.{Term, Terms}
-use Rattle.safl_sites.specs.declared.keep.Keeping.{Keeping}
-use Rattle.safl_sites.specs.declared.site_set.SiteSet.{SiteSet}
 use Rattle.safl_sites.specs.Keeping.{IsHeldHere, Walks, WalksIn, Binds}
-use Rattle.safl_sites.specs.SiteSets.{Adds}
 
 module _ {C : Program} where
   -- by the node of a term

@@ -1,15 +1,10 @@
 -- The sites of one more body that are kept.
+use Rattle.safl_sites.proofs.Common.{ArePeers, CheckedProgram, IsChecked, Keeping, Program, Reaches, SiteSet, arity, unit_for}
 use Rattle.std.proofs.Common.{◌≡◌, ℕ, suc, ◌+◌, ◌<◌, ◌≤◌, false, List, [], ◌∷◌, length, replicate, refl, sym, ap, subst, ◌∙◌, inl, inr, arith}
 use Rattle.std.proofs.lemmas.Bool.{cases_eq, false_from_ne_true}
-use Rattle.safl_term.specs.Checked.{CheckedProgram, IsChecked}
-use Rattle.safl_term.specs.Program.{Program, unit_for, arity}
-use Rattle.safl_sites.specs.declared.keep.Keeping.{Keeping}
-use Rattle.safl_sites.specs.declared.site_set.SiteSet.{SiteSet}
 use Rattle.safl_sites.specs.Bodies.{UnitTable, MustKeep, IsOwnKept, IsBodyKept, IsKeptBelow}
-use Rattle.safl_sites.specs.Conflicts.{Reaches}
 use Rattle.safl_sites.specs.Keeping.{fed_by, IsHeld, Walks, MayKeep}
 use Rattle.safl_sites.specs.Kept.{Decides}
-use Rattle.safl_sites.specs.Peers.{ArePeers}
 use Rattle.safl_sites.specs.SiteSets.{has, Has, HasAt, Adds}
 use Rattle.safl_sites.proofs.AddsInSteps.{adds_as, adds_then}
 use Rattle.safl_sites.proofs.TablesByBodies.{body_part}

@@ -1,25 +1,15 @@
 -- What a let's body reaches are sites of the program.
+use Rattle.safl_sites.proofs.Common.{Call, CheckedProgram, Const, If, IsChecked, IsHeldHere, IsPart, IsTouched, Let, Loop, MayReach, Op}
+use Rattle.safl_sites.proofs.Common.{Primitive, Program, SiteSet, Term, Terms, Var, Word, cases_eq, stands_within, unit_for}
 use Rattle.std.proofs.Common.{◌≡◌, ℕ, ◌+◌, ◌<◌, ◌≤◌, ◌⊎◌, List, get_or, refl, sym, ap, subst, ◌∙◌, inl, inr, arith}
-use Rattle.safl_term.specs.Checked.{CheckedProgram, IsChecked}
-use Rattle.safl_term.specs.Program.{Program, unit_for}
 use Rattle.safl_term.specs.Standing.{Stands}
-use Rattle.safl_term.specs.Terms.{Term, Terms, Const, Var, Op, If, Let, Call, Loop}
-use Rattle.safl_term.proofs.Order.{stands_within}
-use Rattle.safl_sites.specs.declared.site_set.SiteSet.{SiteSet}
 use Rattle.safl_sites.specs.Conflicts.{Reaches, Here, Through, ReachesIn}
 use Rattle.safl_sites.specs.Kept.{InBody}
-use Rattle.safl_sites.specs.Parts.{IsPart}
-use Rattle.safl_sites.specs.Keeping.{IsHeldHere}
 use Rattle.safl_sites.specs.Peers.{IsSiteOf, ArePeers}
-use Rattle.safl_sites.specs.Reach.{MayReach}
 use Rattle.safl_sites.specs.SiteSets.{has, Has, Adds, Meets, no_set}
-use Rattle.safl_sites.specs.Touched.{IsTouched}
-use Rattle.std.proofs.lemmas.Bool.{cases_eq}
 use Rattle.std.specs.Cmp.{both_ways}
 use Rattle.safl_sites.proofs.NumbersFollow.{IsSited, sited, site_of_body}
 use Rattle.safl_sites.proofs.ReachBySites.{reaches_of, reaches_in_by, reach_const, reach_var}
-use Rattle.safl_word.specs.Words.{Word}
-use Rattle.safl_word.specs.declared.primitive.Primitive.{Primitive}
 
 module _ (p : CheckedProgram) (h : IsChecked p) where
   abbrev C : Program

@@ -1,3 +1,4 @@
+mod Common
 pub mod SmallPrograms
 mod WorkedPlans
 pub mod SetsByWords

@@ -1,13 +1,10 @@
 -- Units, functions and sites of a checked program follow each other.
+use Rattle.safl_sites.proofs.Common.{CheckedProgram, IsChecked, Program, cases_eq, cases_lt, stands_within}
 use Rattle.std.proofs.Common.{◌≡◌, ℕ, zero, suc, ◌<◌, ◌≤◌, Bool, true, sym, subst, inl, inr, arith}
-use Rattle.std.proofs.lemmas.Bool.{cases_lt, cases_eq}
-use Rattle.safl_term.specs.Checked.{CheckedProgram, IsChecked}
-use Rattle.safl_term.specs.Program.{Program}
 use Rattle.safl_term.specs.Standing.{Stands, StandsIn}
 use Rattle.safl_term.specs.Terms.{Term, Terms, Const, Var, Op, If, Let, Call, Loop, Nil, Cons}
 use Rattle.safl_term.specs.WellFormed.{Spans, SpansAll}
 use Rattle.safl_term.proofs.HeldByChecked.{first_site_rises, first_site_past}
-use Rattle.safl_term.proofs.Order.{stands_within}
 
 mutual
   unfolding Stands

@@ -1,13 +1,9 @@
 -- The parts of a term that is part of a body are parts of it.
+use Rattle.safl_sites.proofs.Common.{Call, Cons, If, Let, Loop, MayReach, MayReachIn, Nil, Op, Primitive, Program, SiteSet, Term, Terms}
 use Rattle.std.proofs.Common.{◌≡◌, ℕ, suc, ◌+◌, ◌<◌, ◌≤◌, List, [], ◌∷◌, ◌++◌, length, length-append, refl, ap, subst, arith}
-use Rattle.safl_word.specs.declared.primitive.Primitive.{Primitive}
-use Rattle.safl_term.specs.Program.{Program}
-use Rattle.safl_term.specs.Terms.{Term, Terms, Op, If, Let, Call, Loop, Nil, Cons}
 use Rattle.safl_term.specs.WellFormed.{HaveWidths}
 use Rattle.safl_term.proofs.Places.{fits_le, fits_all_le}
-use Rattle.safl_sites.specs.declared.site_set.SiteSet.{SiteSet}
 use Rattle.safl_sites.specs.Parts.{IsPart, ArePart, terms_in}
-use Rattle.safl_sites.specs.Reach.{MayReach, MayReachIn}
 
 pub have_length : (C : Program) (slots : List ℕ) (ts : Terms) (ws : List ℕ) → HaveWidths C slots ts ws → length ws ≡ terms_in ts
 have_length C slots Nil [] h = refl

@@ -1,11 +1,6 @@
 -- One more site in the sets of its unit.
+use Rattle.safl_sites.proofs.Common.{Adds, ArePeers, CheckedProgram, Has, HasAt, IsChecked, Program, SiteSet, cases_eq, unit_for}
 use Rattle.std.proofs.Common.{◌≡◌, ℕ, suc, ◌<◌, ◌≤◌, List, length-set, slice_set, sym, ap, ◌∙◌, inl, inr, arith}
-use Rattle.std.proofs.lemmas.Bool.{cases_eq}
-use Rattle.safl_term.specs.Checked.{CheckedProgram, IsChecked}
-use Rattle.safl_term.specs.Program.{Program, unit_for}
-use Rattle.safl_sites.specs.declared.site_set.SiteSet.{SiteSet}
-use Rattle.safl_sites.specs.Peers.{ArePeers}
-use Rattle.safl_sites.specs.SiteSets.{Has, HasAt, Adds}
 use Rattle.safl_sites.proofs.SetsJoined.{set_more}
 
 pub unit_within : (p : CheckedProgram) → IsChecked p → (k : ℕ) → 1 ≤ k → k ≤ p.program.sites → unit_for p.program k < p.program.functions

@@ -1,14 +1,9 @@
 -- What is in reach of a term, by the sites that stand there.
-use Rattle.std.proofs.Common.{◌≡◌, ℕ, ◌<◌, ◌⊎◌, List, arith, refl, sym, ap, ◌∙◌, inl, inr, subst}
-use Rattle.safl_word.specs.declared.primitive.Primitive.{Primitive}
-use Rattle.safl_word.specs.Words.{Word}
-use Rattle.safl_term.specs.Program.{Program}
+use Rattle.safl_sites.proofs.Common.{Adds, Call, Cons, Const, HasAt, If, Let, List, Loop, Nil, Op, Primitive, Program, SiteSet, Term, Terms}
+use Rattle.safl_sites.proofs.Common.{Var, Word, ap, arith, inl, inr, refl, subst, sym, ℕ, ◌<◌, ◌∙◌, ◌≡◌, ◌⊎◌}
 use Rattle.safl_term.specs.Standing.{Stands, StandsIn}
-use Rattle.safl_term.specs.Terms.{Term, Terms, Const, Var, Op, If, Let, Call, Loop, Nil, Cons}
 use Rattle.safl_sites.specs.Conflicts.{Reaches, Here, Through, ReachesIn}
 use Rattle.safl_sites.specs.Reach.{IsInReach, MayReach}
-use Rattle.safl_sites.specs.SiteSets.{HasAt, Adds}
-use Rattle.safl_sites.specs.declared.site_set.SiteSet.{SiteSet}
 use Rattle.safl_sites.proofs.PartsOfParts.{may_call}
 use Rattle.safl_sites.proofs.AddsInSteps.{adds_as, adds_none, adds_then, adds_by}
 

@@ -1,14 +1,12 @@
 -- Sets of sites, word by word.
+use Rattle.safl_sites.proofs.Common.{SiteSet, get_or-set_at, get_or-set_other, get_or_past}
 use Rattle.std.proofs.Common.{◌≡◌, ℕ, zero, suc, ◌+◌, ◌*◌, ◌/◌, ◌%◌, ◌^◌, ◌<◌, ◌⊎◌, true, false, ◌==◌, List, [], ◌∷◌, length, get_or}
 use Rattle.std.proofs.Common.{slice_set, bit_and, bit_or, min, max, refl, sym, ◌∙◌, ap, inl, inr, arith, eq-eqb, w64}
 use Rattle.std.proofs.lemmas.Bool.{eqb-true, cases_eq, cases_lt, and_parts}
 use Rattle.std.proofs.lemmas.Nat.{and_le_l}
-use Rattle.std.proofs.lemmas.Grind.{get_or-set_at}
-use Rattle.std.proofs.lemmas.List.{get_or-set_other, get_or_past}
 use Rattle.std.proofs.lemmas.Nat.Bits.{bit_at-zero, bit_at-lt, bit_at-suc, bit_at_lowest, bit_at_and, bit_at_or, bit_at_set_same, bit_at_set_other, bit_at_clear_same, bit_at_clear_other}
 use Rattle.std.specs.Int.{bit_at, bit_not}
 use Rattle.std.specs.List.{list_all}
-use Rattle.safl_sites.specs.declared.site_set.SiteSet.{SiteSet}
 use Rattle.safl_sites.specs.SiteSets.{has, Has, Adds, IsCommon, Meets}
 
 zero-not-one : {a : ℕ} → a ≡ 0 → a ≡ 1 → ⊥

@@ -1,17 +1,9 @@
 -- What joins the sets of the sites in a term, by its parts.
+use Rattle.safl_sites.proofs.Common.{Adds, Call, Cons, Const, Has, HasAt, If, Let, Loop, Nil, Op, Primitive, Program, Reaches, SiteSet}
+use Rattle.safl_sites.proofs.Common.{Term, Terms, Var, Word, cases_eq, get_or-set_at, get_or-set_other, no_set}
 use Rattle.std.proofs.Common.{◌≡◌, ℕ, ◌<◌, List, length, get_or, slice_set, sym, subst, inl, inr}
-use Rattle.std.proofs.lemmas.Bool.{cases_eq}
-use Rattle.std.proofs.lemmas.Grind.{get_or-set_at}
-use Rattle.std.proofs.lemmas.List.{get_or-set_other}
-use Rattle.safl_word.specs.declared.primitive.Primitive.{Primitive}
-use Rattle.safl_word.specs.Words.{Word}
-use Rattle.safl_term.specs.Program.{Program}
 use Rattle.safl_term.specs.Standing.{Stands}
-use Rattle.safl_term.specs.Terms.{Term, Terms, Const, Var, Op, If, Let, Call, Loop, Nil, Cons}
-use Rattle.safl_sites.specs.declared.site_set.SiteSet.{SiteSet}
-use Rattle.safl_sites.specs.Conflicts.{Reaches}
 use Rattle.safl_sites.specs.Parallel.{After, Marked, MarkedIn}
-use Rattle.safl_sites.specs.SiteSets.{Has, HasAt, Adds, no_set}
 use Rattle.safl_sites.proofs.AddsInSteps.{adds_as, adds_none, adds_then, adds_by}
 
 -- by the node of a term

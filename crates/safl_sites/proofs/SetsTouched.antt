@@ -1,12 +1,7 @@
 -- What is in the sets of the slots that a term uses, by its parts.
-use Rattle.std.proofs.Common.{◌≡◌, ℕ, ◌<◌, ◌≤◌, List, length, refl, sym, subst, inl, inr, arith}
-use Rattle.std.proofs.lemmas.List.{get_or_past}
-use Rattle.safl_word.specs.declared.primitive.Primitive.{Primitive}
-use Rattle.safl_word.specs.Words.{Word}
-use Rattle.safl_term.specs.Terms.{Term, Terms, Const, Var, Op, If, Let, Call, Loop, Nil, Cons}
-use Rattle.safl_sites.specs.declared.site_set.SiteSet.{SiteSet}
+use Rattle.safl_sites.proofs.Common.{Adds, Call, Cons, Const, Has, HasAt, If, Let, List, Loop, Nil, Op, Primitive, SiteSet, Term, Terms}
+use Rattle.safl_sites.proofs.Common.{Var, Word, arith, get_or_past, inl, inr, length, no_set, refl, subst, sym, ℕ, ◌<◌, ◌≡◌, ◌≤◌}
 use Rattle.safl_sites.specs.Kept.{Uses}
-use Rattle.safl_sites.specs.SiteSets.{Has, HasAt, Adds, no_set}
 use Rattle.safl_sites.specs.Touched.{IsTouched, IsTouchedIn}
 use Rattle.safl_sites.proofs.AddsInSteps.{adds_as, adds_none, adds_then, adds_by}
 use Rattle.safl_sites.proofs.SetsByWords.{no_set_has}

@@ -1,9 +1,7 @@
 -- Small programs whose plans and runs are worked out.
+use Rattle.safl_sites.proofs.Common.{Call, Cons, Const, If, Let, Nil, Op, Program, Term, Terms, Var, Word}
 use Rattle.std.proofs.Common.{ℕ, [], ◌∷◌, cond, ◌==◌}
-use Rattle.safl_word.specs.Words.{Word}
 use Rattle.safl_word.specs.declared.primitive.Primitive.TheVariants.{Add, Eq}
-use Rattle.safl_term.specs.Terms.{Term, Const, Var, Op, If, Let, Call, Terms, Nil, Cons}
-use Rattle.safl_term.specs.Program.{Program}
 
 abbrev pub byte : ℕ → Word
 byte n = record { width = 8; bits = n }

@@ -1,16 +1,10 @@
 -- One more body in the tables.
+use Rattle.safl_sites.proofs.Common.{IsPart, MayReach, Program, Reaches, SiteSet, get_or-set_at, get_or-set_other}
 use Rattle.std.proofs.Common.{◌≡◌, ℕ, zero, suc, ◌<◌, ◌⊎◌, true, false, List, length, length-set, get_or, slice_set, replicate, refl, sym, subst, ◌∙◌, inl, inr, arith}
 use Rattle.std.proofs.lemmas.Bool.{cases_eq, both_ways}
-use Rattle.std.proofs.lemmas.Grind.{get_or-set_at}
-use Rattle.std.proofs.lemmas.List.{get_or-set_other}
 use Rattle.safl_term.specs.Checked.{CheckedProgram, IsChecked}
-use Rattle.safl_term.specs.Program.{Program}
-use Rattle.safl_sites.specs.declared.site_set.SiteSet.{SiteSet}
-use Rattle.safl_sites.specs.Conflicts.{Reaches}
 use Rattle.safl_sites.specs.Filling.{ReachedBelow, StandsAfter, IsFilled}
 use Rattle.safl_sites.specs.Parallel.{After, Marked}
-use Rattle.safl_sites.specs.Parts.{IsPart}
-use Rattle.safl_sites.specs.Reach.{MayReach}
 use Rattle.safl_sites.specs.SiteSets.{has, Has, HasAt, Adds, no_set}
 use Rattle.safl_sites.proofs.SetsJoined.{set_more}
 use Rattle.safl_sites.proofs.NumbersFollow.{lower_before}

@@ -1,12 +1,9 @@
 -- The tables decide the plan.
+use Rattle.safl_sites.proofs.Common.{CheckedProgram, Collides, IsChecked, IsCollected, Program, SiteSet, arity, unit_for}
 use Rattle.std.proofs.Common.{◌≡◌, ℕ, suc, ◌<◌, ◌⊎◌, false, replicate, get_or, refl, sym, ap, subst, ◌∙◌, inl, inr, arith}
-use Rattle.safl_term.specs.Checked.{CheckedProgram, IsChecked}
-use Rattle.safl_term.specs.Program.{Program, unit_for, arity}
 use Rattle.safl_term.specs.Standing.{Stands, StandsIn}
 use Rattle.safl_term.specs.Terms.{Term, Terms, Const, Var, Op, If, Let, Call, Loop, Nil, Cons}
-use Rattle.safl_sites.specs.declared.site_set.SiteSet.{SiteSet}
 use Rattle.safl_sites.specs.Bodies.{IsBodyKept, IsKeptBelow}
-use Rattle.safl_sites.specs.Collecting.{Collides, IsCollected}
 use Rattle.safl_sites.specs.Conflicts.{Reaches, Conflict}
 use Rattle.safl_sites.specs.Kept.{Kept, Decides, Held}
 use Rattle.safl_sites.specs.Parallel.{After, AfterIn, ComesBefore}

@@ -1,13 +1,10 @@
 -- Which sites of small programs are kept, and which conflict.
+use Rattle.safl_sites.proofs.Common.{Call, Const, HasArbiter, Program, Term, Var, bool_at}
 use Rattle.std.proofs.Common.{◌≡◌, ℕ, zero, suc, ◌<◌, [], ◌∷◌, true, false, refl, inl, inr, ◌⊎◌, ⊎_elim, arith}
 use Rattle.std.proofs.lemmas.Bool.{false≢true}
-use Rattle.safl_word.specs.Lists.{bool_at}
-use Rattle.safl_term.specs.Program.{Program}
-use Rattle.safl_term.specs.Terms.{Term, Const, Var, Call}
 use Rattle.safl_term.specs.Standing.{Stands}
 use Rattle.safl_sites.specs.Conflicts.{Reaches, Here, Through, ReachesIn, Apart, ApartIn, Conflict}
 use Rattle.safl_sites.specs.Kept.{feeds, Uses, Decides, InBody, Held, Kept}
-use Rattle.safl_sites.specs.Plan.{HasArbiter}
 use Rattle.safl_sites.proofs.SmallPrograms.{byte, just, next, sum, nested, bound, paired, decided}
 
 one_two : (x y : ℕ) → x ≡ 1 → y ≡ 2 → x ≡ y → ⊥

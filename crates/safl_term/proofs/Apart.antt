@@ -1,7 +1,6 @@
 -- Values that are apart.
+use Rattle.safl_term.proofs.Common.{Word, ◌≢◌}
 use Rattle.std.proofs.Common.{List, arith, ℕ, ◌≡◌}
-use Rattle.std.specs.Prelude.{◌≢◌}
-use Rattle.safl_word.specs.Words.{Word}
 use Rattle.safl_term.specs.Readiness.{LoopTo, NotYet, Ready, Returned, Sent, Stage, Unsent}
 
 pub ready_not_yet : (v : Word) → Ready v ≡ NotYet → ⊥

@@ -1,16 +1,12 @@
 -- From partial evaluation, a function, to what it shows, where the returned words are right.
+use Rattle.safl_term.proofs.Common.{Primitive, Program, Spans, SpansAll, Word, choose, pick, same_Some}
 use Rattle.std.proofs.Common.{◌≡◌, ℕ, zero, suc, ◌<◌, ◌≤◌, List, [], ◌++◌, Option, Some, None, Bool, true, false, cond, refl, sym, ap, ◌∙◌, subst, arith, inl, inr, ◌⊎◌, ⊎_elim}
 use Rattle.std.specs.Prelude.{◌≢◌, ◌==◌}
 use Rattle.std.proofs.lemmas.Bool.{false≢true, eq-eqb, ne_eqb, cases_eq}
-use Rattle.std.proofs.lemmas.Option.{same_Some}
-use Rattle.safl_word.specs.Words.{Word, choose, pick}
-use Rattle.safl_word.specs.declared.primitive.Primitive.{Primitive}
 use Rattle.safl_term.specs.Terms.{Term, Const, Var, If, Let, Op, Call, Loop, Terms, Nil, Cons}
-use Rattle.safl_term.specs.Program.{Program}
 use Rattle.safl_term.specs.Meaning.{Gives, cost, costs}
 use Rattle.safl_term.specs.Readiness.{Stage, Unsent, Sent, Returned, back_word, Answer, Ready, LoopTo, NotYet, answer, answers, wanted, wanted_in}
 use Rattle.safl_term.specs.Readiness.{both, apply_to, loop_to, ready_from, select, with_all, or_else}
-use Rattle.safl_term.specs.WellFormed.{Spans, SpansAll}
 use Rattle.safl_term.proofs.Shows.{Done, d_const, d_var, d_op, d_if, d_let, d_call, DoneAll, d_nil, d_cons, Tail, t_loop, t_if, t_let, Asks, a_here}
 use Rattle.safl_term.proofs.Shows.{a_arg, a_loop, a_op, a_cond, a_branch, a_bind, a_body, AsksIn, a_head, a_tail, done_gives, done_all_gives}
 use Rattle.safl_term.proofs.Unique.{one_value, one_list}

@@ -1,13 +1,10 @@
 -- How much is left to do while a term is taken apart.
+use Rattle.safl_term.proofs.Common.{Primitive, Word, shown_term, shown_terms, sum_by-cons}
 use Rattle.std.proofs.Common.{◌≡◌, ℕ, ◌+◌, ◌<◌, ◌≤◌, refl, arith, List, [], ◌∷◌, Option, Vec, Box, Global, ap, subst}
 use Rattle.std.specs.List.{sum_by}
-use Rattle.std.proofs.lemmas.List.Sums.{sum_by-cons}
 use Rattle.std.specs.Prelude.{IfSome}
-use Rattle.safl_word.specs.declared.primitive.Primitive.{Primitive}
-use Rattle.safl_word.specs.Words.{Word}
 use Rattle.safl_word.specs.Naturals.{work}
 use Rattle.safl_term.specs.Terms as plain
-use Rattle.safl_term.specs.Tree.{shown_term, shown_terms}
 use Rattle.safl_term.specs.Weights.{weight, weight_in, code_weight, work_at}
 use Rattle.safl_term.specs.declared.dismantle.At.{At}
 use Rattle.safl_term.specs.declared.term.Term.{Term, Const, Var, If', Let, Let', Op, Op', Call, Call', Loop, Loop'}

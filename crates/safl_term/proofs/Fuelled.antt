@@ -1,11 +1,9 @@
 -- The two meanings agree.
+use Rattle.safl_term.proofs.Common.{Program, Word, apply_prim, choose, pick, slot}
 use Rattle.std.proofs.Common.{◌≡◌, ℕ, zero, suc, ◌+◌, ◌≤◌, List, [], ◌∷◌, ◌++◌, refl, ap, ◌∙◌, subst, arith}
 use Rattle.safl_term.specs.Fuel.{Outcome, Nothing, Gave, Outcomes, NoWords, Words, with_word, with_words, with_rest, with_head, Apply, eval, eval_all, apply, GivesInCalls}
 use Rattle.safl_term.specs.Meaning.{Gives, gives_const, gives_var, gives_op, gives_if, gives_let, gives_call, gives_loop, GivesAll, gives_nil, gives_cons, cost, costs, Main, main_cost}
-use Rattle.safl_term.specs.Program.{Program}
 use Rattle.safl_term.specs.Terms.{Term, Const, Var, If, Let, Op, Call, Loop, Terms, Nil, Cons}
-use Rattle.safl_word.specs.Primitives.{apply_prim}
-use Rattle.safl_word.specs.Words.{choose, Word, slot, pick}
 
 -- an evaluation that uses up n but for m
 abbrev Uses : Program → List Word → Term → Word → ℕ → ℕ → Type 0

@@ -1,21 +1,18 @@
 -- What holds of every checked program.
+use Rattle.safl_term.proofs.Common.{Program, arity, shown_term, sum_by-cons, width_max}
 use Rattle.std.proofs.Common.{◌≡◌, ℕ, zero, suc, ◌+◌, ◌-◌, ◌<◌, ◌≤◌, ◌⊎◌, List, [], ◌∷◌, length, map, Option, Some, None, slice_get, take, get_or, option_map, refl, ap, ◌∙◌, subst, ⊎_elim, arith}
 use Rattle.std.specs.Prelude.{sum_by}
 use Rattle.std.specs.Option.{option_map_or}
 use Rattle.std.specs.String.{string_bytes}
 use Rattle.safl_word.specs.Words.{no_word}
-use Rattle.safl_word.specs.Limits.{width_max}
 use Rattle.safl_term.specs.Checked.{CheckedProgram, IsChecked, checked_of, tables_again}
-use Rattle.safl_term.specs.Program.{Program, arity}
 use Rattle.safl_term.specs.Sizes.{nodes, body_nodes}
 use Rattle.safl_term.specs.Terms.{Const}
-use Rattle.safl_term.specs.Tree.{shown_term}
 use Rattle.safl_term.specs.Tables.{Tables, program_of, first_site_of, param_names}
 use Rattle.safl_term.specs.declared.checked.Function.{Function}
 use Rattle.safl_term.specs.declared.checked.Parameter.{Parameter}
 use Rattle.std.proofs.lemmas.Bool.{cases_lt}
 use Rattle.std.proofs.lemmas.List.{length-map, take_all}
-use Rattle.std.proofs.lemmas.List.Sums.{sum_by-cons}
 use Rattle.std.proofs.lemmas.Option.{slice_get_past, slice_get_read, slice_get-map}
 use Rattle.safl_term.proofs.Places.{fits_le}
 

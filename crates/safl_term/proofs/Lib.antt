@@ -1,3 +1,4 @@
+mod Common
 pub mod Shows
 pub mod Unique
 pub mod Places
@@ -15,3 +16,4 @@ pub mod Dismantling
 pub mod OrElse
 pub mod Apart
 pub mod PlainTerms
+pub mod Smaller

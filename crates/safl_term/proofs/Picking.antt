@@ -1,7 +1,6 @@
 -- Lemmas on the choice by a number.
+use Rattle.safl_term.proofs.Common.{Word, pick, ◌≢◌}
 use Rattle.std.proofs.Common.{◌≡◌, ℕ, zero, suc, refl, arith, inl, inr, ◌⊎◌}
-use Rattle.std.specs.Prelude.{◌≢◌}
-use Rattle.safl_word.specs.Words.{Word, pick}
 use Rattle.safl_term.specs.Readiness.{Answer, Ready}
 
 pub pick_two : {A B : Type 0} (n : ℕ) (x y : A) (x' y' : B) (P : A → B → Type 0) → P x x' → P y y' → P (pick n x y) (pick n x' y')

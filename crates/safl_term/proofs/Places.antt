@@ -1,11 +1,9 @@
 -- The sites of a well-formed term lie in its interval, and each stands once.
+use Rattle.safl_term.proofs.Common.{Program, Spans, SpansAll, Word, choose, pick}
 use Rattle.std.proofs.Common.{◌≡◌, ℕ, zero, suc, ◌<◌, ◌≤◌, List, Bool, false, arith}
 use Rattle.safl_term.proofs.Shows.{Asks, a_here, a_arg, a_loop, a_op, a_cond, a_branch, a_bind, a_body, AsksIn, a_head, a_tail}
 use Rattle.safl_term.specs.Readiness.{Stage}
-use Rattle.safl_term.specs.Program.{Program}
 use Rattle.safl_term.specs.Terms.{Term, Const, Var, If, Let, Op, Call, Loop, Terms, Nil, Cons}
-use Rattle.safl_term.specs.WellFormed.{Spans, SpansAll}
-use Rattle.safl_word.specs.Words.{choose, Word, pick}
 
 mutual
   pub fits_le : (p : Program) (g : ℕ) (tail : Bool) (lo hi : ℕ) (t : Term) → Spans p g tail lo hi t → lo ≤ hi

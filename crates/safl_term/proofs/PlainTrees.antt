@@ -1,8 +1,7 @@
 -- A term's plain tree, by its lists.
+use Rattle.safl_term.proofs.Common.{Count, Primitive}
 use Rattle.std.proofs.Common.{◌≡◌, ℕ, Vec, Global, refl, ap, ◌∙◌}
-use mathlib.Core.Former.{Count}
 use Rattle.std.specs.declared.boxed.Box.{Box}
-use Rattle.safl_word.specs.declared.primitive.Primitive.{Primitive}
 use Rattle.safl_term.specs.Terms as plain
 use Rattle.safl_term.specs.declared.term.Term.{Term, Let, Op, Call, Loop, Loop', Row_of-Term, end_of-Term, more_of-Term, items-the_row-Term, items_hidden-the_row-Term-0}
 use Rattle.safl_term.specs.Tree.{shown_term, shown_row, shown_terms}

@@ -1,12 +1,9 @@
 -- What partial evaluation shows, as relations.
+use Rattle.safl_term.proofs.Common.{Primitive, Program, Word, apply_prim, choose, slot}
 use Rattle.std.proofs.Common.{◌≡◌, ℕ, List, [], ◌∷◌, ◌++◌}
 use Rattle.safl_term.specs.Readiness.{Stage, Returned}
 use Rattle.safl_term.specs.Meaning.{Gives, gives_const, gives_var, gives_op, gives_if, gives_let, gives_call, gives_loop, GivesAll, gives_nil, gives_cons}
-use Rattle.safl_term.specs.Program.{Program}
 use Rattle.safl_term.specs.Terms.{Term, Const, Var, If, Let, Op, Call, Loop, Terms, Nil, Cons}
-use Rattle.safl_word.specs.declared.primitive.Primitive.{Primitive}
-use Rattle.safl_word.specs.Primitives.{apply_prim}
-use Rattle.safl_word.specs.Words.{choose, Word, slot}
 
 mutual
   -- the term is ready with v, all its evaluated sites have returned, and rightly

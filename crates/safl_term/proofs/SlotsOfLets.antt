@@ -1,13 +1,10 @@
 -- The slots of a term's lets, by its lists.
+use Rattle.safl_term.proofs.Common.{Count, Primitive, Word, shown_terms}
 use Rattle.std.proofs.Common.{◌≡◌, ℕ, suc, ◌+◌, Vec, Global, List, [], ◌∷◌, length, refl, sym, ap, subst, ◌∙◌}
 use Rattle.std.specs.List.{AllByRecursion}
-use mathlib.Core.Former.{Count}
 use Rattle.std.specs.declared.boxed.Box.{Box}
-use Rattle.safl_word.specs.Words.{Word}
-use Rattle.safl_word.specs.declared.primitive.Primitive.{Primitive}
 use Rattle.safl_term.specs.declared.term.Term.{Term, Const, Var, If, Let, Op, Call, Loop, Row_of-Term, end_of-Term, more_of-Term, items-the_row-Term, items_hidden-the_row-Term-0}
 use Rattle.safl_term.specs.Slots.{count, HasSlots, HaveSlots}
-use Rattle.safl_term.specs.Tree.{shown_terms}
 use Rattle.safl_term.proofs.PlainTrees.{row_of, listed}
 
 slots_row : (n : ℕ) (m : Count) (row : Row_of-Term m) → AllByRecursion (HasSlots n) (items-the_row-Term m row) → HaveSlots n row

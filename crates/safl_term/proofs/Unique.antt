@@ -1,11 +1,9 @@
 -- At most one value and one cost, and as many loops and the same calls.
+use Rattle.safl_term.proofs.Common.{Program, Word, apply_prim, choose}
 use Rattle.std.proofs.Common.{◌≡◌, ℕ, List, ◌∷◌, ◌++◌, refl, sym, ap, ◌∙◌, subst, arith}
 use Rattle.safl_term.specs.Meaning.{Gives, gives_const, gives_var, gives_op, gives_if, gives_let, gives_call, gives_loop, GivesAll, gives_nil}
 use Rattle.safl_term.specs.Meaning.{gives_cons, cost, costs, loops, loops_all, at_function, calls_to, calls_all}
-use Rattle.safl_term.specs.Program.{Program}
 use Rattle.safl_term.specs.Terms.{Term, Terms}
-use Rattle.safl_word.specs.Primitives.{apply_prim}
-use Rattle.safl_word.specs.Words.{choose, Word}
 
 -- the term evaluates to v at this cost
 abbrev pub GivesIn : Program → List Word → Term → Word → ℕ → Type 0

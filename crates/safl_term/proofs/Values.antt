@@ -1,13 +1,11 @@
 -- A well-formed program's values are words of their widths.
+use Rattle.safl_term.proofs.Common.{Program, apply_width, result_width, widths}
 use Rattle.std.proofs.Common.{◌≡◌, ℕ, zero, suc, ◌<◌, List, [], ◌∷◌, ◌++◌, Bool, true, false, Some, None, refl, sym, ap, ◌∙◌, subst}
 use Rattle.std.specs.Prelude.{slice_get}
 use Rattle.safl_word.specs.Words.{Word, IsWord, slot}
-use Rattle.safl_word.specs.Primitives.{result_width}
 use Rattle.safl_word.specs.Words.{AreWords}
-use Rattle.safl_word.proofs.Widths.{widths, apply_width}
 use Rattle.safl_word.proofs.Fits.{apply_fits}
 use Rattle.safl_term.specs.Terms.{Term, Terms}
-use Rattle.safl_term.specs.Program.{Program}
 use Rattle.safl_term.specs.Meaning.{Gives, gives_const, gives_var, gives_op, gives_if, gives_let, gives_call, gives_loop, GivesAll, gives_nil, gives_cons, Main}
 use Rattle.safl_term.specs.WellFormed.{Spans, SpansAll, HasWidth, HaveWidths, AreWordsOf, IsWellFormed}
 use Rattle.safl_term.proofs.Picking.{pick_two}

@@ -1,13 +1,9 @@
 -- What a term of a width answers, loops with and wants has the widths that it should have.
+use Rattle.safl_term.proofs.Common.{Program, Word, apply_prim, apply_width, result_width, same_Some, slot, widths}
 use Rattle.std.proofs.Common.{◌≡◌, ℕ, zero, suc, List, [], ◌∷◌, ◌++◌, Option, Some, None, Bool, false, cond, refl, sym, ap, ◌∙◌, subst, inl, inr, ◌⊎◌, ⊎_elim, arith}
 use Rattle.std.specs.Prelude.{slice_get}
 use Rattle.std.proofs.lemmas.Bool.{cases_eq, eq-eqb, ne_eqb}
-use Rattle.std.proofs.lemmas.Option.{same_Some}
-use Rattle.safl_word.specs.Words.{Word, slot}
-use Rattle.safl_word.specs.Primitives.{apply_prim, result_width}
-use Rattle.safl_word.proofs.Widths.{widths, apply_width}
 use Rattle.safl_term.specs.Terms.{Term, Const, Var, Op, If, Let, Call, Loop, Terms, Nil, Cons}
-use Rattle.safl_term.specs.Program.{Program}
 use Rattle.safl_term.specs.Readiness.{Answer, Ready, LoopTo, NotYet, both, ready_from, apply_to, loop_to, select, with_all, answer, answers, wanted, wanted_in}
 use Rattle.safl_term.specs.Standing.{Stands, StandsIn}
 use Rattle.safl_term.specs.WellFormed.{Spans, SpansAll, HasWidth, HaveWidths}

@@ -1,21 +1,13 @@
 -- What a command gives of the contents of its files, by what the function of the command makes of them.
+use Rattle.safl_tool.proofs.Common.{Answer, Bor, Declines, Files, IfErr, IfOk, Lines, MatchResult, Refusal, RefusesBy, Vec, content_at}
 use Rattle.std.proofs.Common.{◌≡◌, ℕ, ◌≤◌, List, [], ◌∷◌, length, Option, None, Result, Ok, Err, refl, sym, ap, subst}
-use Rattle.std.specs.Prelude.{IfOk, IfErr, MatchResult}
-use Rattle.std.specs.Borrow.{Bor}
 use Rattle.std.specs.declared.alloc.Global.{Global}
-use Rattle.std.specs.declared.vec.Vec.{Vec}
-use Rattle.safl_io.specs.Shelf.{Files}
 use Rattle.safl_task.specs.Tasks.{Input, Given, AreContents, Only, Both, reading, reading_both}
 use Rattle.safl_task.proofs.Following.{Refusing, Giving}
 use Rattle.safl_command.specs.Traces.{Traces}
 use Rattle.safl_tool.specs.Answers.{Answers, CanBeGiven, outputs_of, printed, traces_for, WillGive}
 use Rattle.safl_task.specs.Tasks.{only_writes}
-use Rattle.safl_tool.specs.Reading.{content_at}
-use Rattle.safl_tool.specs.Refusals.{Declines, RefusesBy}
-use Rattle.safl_tool.specs.declared.answer.Answer.{Answer}
 use Rattle.safl_tool.specs.declared.answer.Answer.TheVariants as answer
-use Rattle.safl_tool.specs.declared.answer.Lines.{Lines}
-use Rattle.safl_tool.specs.declared.refusal.Refusal.{Refusal}
 use Rattle.safl_tool.proofs.Refusing.{refuses_more}
 
 -- ---- the contents

@@ -1,36 +1,22 @@
 -- Which files the probes are asked for, and what they hold afterwards.
+use Rattle.safl_tool.proofs.Common.{AreApart, Asked, Files, IsAsked, IsRunOf, IsWriting, Netlist, ProbeState, Refusal, SameProbes}
+use Rattle.safl_tool.proofs.Common.{ShelfState, TellsOn, TraceKind, Valuation, WatchingFails, Word, WriteFailed, asked, bytes_eq-Decides}
+use Rattle.safl_tool.proofs.Common.{false≢true, file_of, files_of, is_any_given, option_or, probe_at, trace_at}
 use Rattle.std.proofs.Common.{◌≡◌, ◌⊎◌, ℕ, zero, suc, ◌+◌, ◌<◌, List, [], ◌∷◌, ◌++◌, map, length, take, drop, get_or, ◌≤◌, bytes_eq, if◌then◌else◌}
 use Rattle.std.proofs.Common.{Bool, true, false, not, Option, Some, None, is_some, Contains, String, string_bytes, option_map, refl, sym, ap, subst}
 use Rattle.std.proofs.Common.{◌∙◌, append_assoc, inl, inr, arith}
 use Rattle.std.specs.Prelude.{◌&&◌, ◌||◌, IsSomeAnd}
-use Rattle.std.specs.Option.{option_or}
-use Rattle.std.proofs.lemmas.Bool.{false≢true}
 use Rattle.std.specs.declared.alloc.Global.{Global}
 use Rattle.std.proofs.lemmas.List.{at_drop_more, drop_all, append-nil, length-map}
-use Rattle.std.proofs.lemmas.Slice.Eq.{bytes_eq-Decides}
-use Rattle.safl_io.specs.Shelf.{Files, ShelfState, file_of}
-use Rattle.safl_io.specs.Told.{TellsOn}
-use Rattle.safl_net.specs.Netlist.{Netlist}
-use Rattle.safl_net.specs.Valuations.{Valuation}
-use Rattle.safl_probe.specs.Probing.{ProbeState}
 use Rattle.safl_probe.specs.Texts.{Text, trace, opening_text, frames_text, closing}
 use Rattle.safl_probe.specs.Watching.{kind_of, watched_by}
-use Rattle.safl_probe.specs.declared.kind.TraceKind.{TraceKind}
 use Rattle.safl_probe.specs.declared.kind.TraceKind.TheVariants.{Vcd, Starts, Toggles, Silent}
-use Rattle.safl_word.specs.Words.{Word}
-use Rattle.safl_probe.specs.Asked.{Asked, IsAsked, AreApart, asked, probe_at}
 use Rattle.safl_probe.specs.Growth.{AllGrow, Made, OldOrPart, Relation}
-use Rattle.safl_probe.specs.Runs.{IsRunOf, trace_at}
 use Rattle.safl_command.specs.Traces.{Traces, differ, is_named, are_apart}
-use Rattle.safl_probe.specs.Stopping.{SameProbes, WriteFailed}
 use Rattle.safl_probe.proofs.Growing.{is_within}
-use Rattle.safl_tool.specs.Refusals.{IsWriting, WatchingFails}
-use Rattle.safl_tool.specs.declared.refusal.Refusal.{Refusal}
 use Rattle.safl_tool.specs.declared.refusal.Refusal.TheVariants as refusal
 use Rattle.safl_task.specs.Endings.{LeavesAll, LeavesParts}
-use Rattle.safl_task.specs.Tasks.{files_of}
 use Rattle.safl_tool.specs.Tracing.{one_given, given_files, files_for, traces_of, file_of_kind, file_at, without, AreAskedFor, asked_by, have_probes, kinds_of}
-use Rattle.safl_tool.specs.Asking.{is_any_given}
 
 -- ---- the files of the kinds
 

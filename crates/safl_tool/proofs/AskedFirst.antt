@@ -1,9 +1,7 @@
 -- The first probe of a kind is asked.
+use Rattle.safl_tool.proofs.Common.{IsAsked, TraceKind, kind_of}
 use Rattle.std.proofs.Common.{◌≡◌, ℕ, zero, suc, ◌<◌, List, [], ◌∷◌, Bool, true, false, not, Option, Some, None, is_some, refl, ap, ◌∙◌, arith}
 use Rattle.std.specs.Prelude.{◌||◌}
-use Rattle.safl_probe.specs.Asked.{IsAsked}
-use Rattle.safl_probe.specs.Watching.{kind_of}
-use Rattle.safl_probe.specs.declared.kind.TraceKind.{TraceKind}
 use Rattle.safl_probe.specs.declared.kind.TraceKind.TheVariants.{Vcd, Starts, Toggles}
 use Rattle.safl_command.specs.Traces.{Traces}
 use Rattle.safl_tool.specs.Laws.{kind_at, EachIsAsked, FirstAreAsked}

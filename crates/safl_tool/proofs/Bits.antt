@@ -1,19 +1,13 @@
 -- What is said of bit-level circuits.
+use Rattle.safl_tool.proofs.Common.{IsAcyclic, Netlist, NoFault, Refusal, RefusesBy, Status, may_give}
 use Rattle.std.proofs.Common.{◌≡◌, ℕ, List, false, ap, subst, ◌∙◌, arith, inl, inr}
-use Rattle.safl_net.specs.Netlist.{Netlist}
-use Rattle.safl_net.specs.Valuations.{IsAcyclic}
-use Rattle.safl_aiger.specs.ReadLaws.{NoFault}
 use Rattle.safl_aiger.specs.declared.reading.AigRule.{AigRule}
 use Rattle.safl_aig.specs.BitLevel.{IsLight}
 use Rattle.safl_aig.specs.Lines.{fault_line}
 use Rattle.safl_verilog.specs.Laws as verilog
 use Rattle.safl_tool.specs.BitLevel.{RefusesNetlist, nonzero, heavy, RefusesBitsOf, HasBits, RefusesAig, IsAig}
 use Rattle.safl_tool.specs.CommandTasks.{RefusesNet}
-use Rattle.safl_task.specs.Endings.{may_give}
-use Rattle.safl_tool.specs.Refusals.{RefusesBy}
 use Rattle.safl_tool.specs.Running.{IsRunnable, IsUnrunnable, faulty, looped}
-use Rattle.safl_task.specs.declared.status.Status.{Status}
-use Rattle.safl_tool.specs.declared.refusal.Refusal.{Refusal}
 use Rattle.safl_tool.proofs.Refusing.{refuses_more}
 
 -- nothing is given where a text is refused

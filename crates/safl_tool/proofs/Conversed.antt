@@ -1,21 +1,13 @@
 -- What a session of a compiled source says.
+use Rattle.safl_tool.proofs.Common.{AreWords, AreWordsOf, IsCompiled, IsReadySession, Names, Netlist, OneProgram, Opened, Program}
+use Rattle.safl_tool.proofs.Common.{ReadySession, ShelfState, SinkState, Status, Word, argument_widths, may_give, outside, reset_state}
+use Rattle.safl_tool.proofs.Common.{resets, slice_get_within}
 use Rattle.std.proofs.Common.{◌≡◌, ℕ, ◌<◌, ◌≤◌, List, [], ◌∷◌, map, length, Bool, true, false, slice_index, refl, sym, ap, subst, ◌∙◌, arith, inl, inr}
 use Rattle.std.specs.Prelude.{All}
 use Rattle.std.proofs.Math.Path.{fun_ext}
 use Rattle.std.proofs.lemmas.Bool.{eq-eqb}
 use Rattle.std.proofs.lemmas.List.Elements.{All-nil, All-cons}
-use Rattle.std.proofs.lemmas.Option.{slice_get_within}
-use Rattle.safl_io.specs.Shelf.{ShelfState}
-use Rattle.safl_io.specs.Sink.{SinkState}
-use Rattle.safl_word.specs.Words.{Word, AreWords}
-use Rattle.safl_net.specs.Netlist.{Netlist}
-use Rattle.safl_net.specs.Valuations.{reset_state}
-use Rattle.safl_net.specs.Arguments.{argument_widths}
-use Rattle.safl_sim.specs.Places.{resets}
 use Rattle.safl_sim.proofs.Builds.{resets_fit}
-use Rattle.safl_term.specs.Program.{Program}
-use Rattle.safl_term.specs.Names.{Names}
-use Rattle.safl_term.specs.WellFormed.{AreWordsOf}
 use Rattle.safl_net.proofs.SignalKinds.{reset_at}
 use Rattle.safl_circuit.proofs.WholeCircuits.{schemes_whole}
 use Rattle.safl_session.specs.Lines.{ScriptFault, Count, Argument, error_of}
@@ -27,20 +19,13 @@ use Rattle.safl_session.specs.Laws.{AreCallsOf}
 use Rattle.safl_session.specs.Lines as lines
 use Rattle.safl_session.specs.Replies.{AreReplies}
 use Rattle.safl_session.specs.Scripts.{AreCalls, IsScript, IsScriptFault, RefusesScript}
-use Rattle.safl_session.specs.Sessions.{Opened}
-use Rattle.safl_compiler.specs.Laws.{OneProgram}
 use Rattle.safl_session.specs.Holding.{IsReady, IsHeld, IsBegun}
 use Rattle.safl_tool.specs.Calling.{Converses, GivesReplies, IsMisscripted, EvaluatesEach, script_line, told}
 use Rattle.safl_tool.specs.CommandTasks.{RefusesSession}
-use Rattle.safl_task.specs.Endings.{outside, may_give}
 use Rattle.safl_tool.specs.Lines.{count_line, argument_line, numbered_line}
-use Rattle.safl_tool.specs.ReadySession.{IsReadySession}
-use Rattle.safl_tool.specs.Sources.{IsCompiled}
 use Rattle.safl_task.specs.Tasks.{Given, status_if}
 use Rattle.safl_tool.specs.Answers.{IsTranscript, IsGiven, IsGivenInPart}
 use Rattle.safl_tool.specs.declared.answer.Answer.TheVariants as answer
-use Rattle.safl_tool.specs.declared.session.ReadySession.{ReadySession}
-use Rattle.safl_task.specs.declared.status.Status.{Status}
 use Rattle.safl_task.specs.declared.status.Status.TheVariants as status
 use Rattle.safl_task.proofs.Ending.{same_all, same_parts}
 

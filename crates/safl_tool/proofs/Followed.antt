@@ -1,12 +1,9 @@
 -- What follows of how a call ends.
-use Rattle.std.proofs.Common.{Option}
-use Rattle.safl_io.specs.Sink.{SinkState}
+use Rattle.safl_tool.proofs.Common.{Attended, Option, SinkState, Status}
 use Rattle.safl_command.specs.Commands.{Command}
-use Rattle.safl_task.specs.declared.status.Status.{Status}
 use Rattle.safl_task.proofs.Following.{end_keeps, end_tells, end_left, left_others, end_completes}
 use Rattle.safl_tool.specs.Tracing.{kinds_of}
 use Rattle.safl_tool.specs.Worlds.{World, Unprobed, task_in, EndsBy, Follows, SparesFor}
-use Rattle.safl_tool.specs.Watched.{Attended}
 use Rattle.safl_tool.specs.Laws.{EndsTell}
 use Rattle.safl_tool.proofs.Kept.{Laws, kept}
 

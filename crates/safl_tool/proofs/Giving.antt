@@ -1,19 +1,11 @@
 -- What a command gives, by what its parts answer.
+use Rattle.safl_tool.proofs.Common.{Done, IsCircuitOf, IsNetlist, IsSourceOf, IsWhole, Names, Netlist, Program, written}
 use Rattle.std.proofs.Common.{◌≡◌, ℕ, List, ◌++◌, take, drop, Option, Bool, sym, ap, ◌∙◌}
 use Rattle.std.specs.Prelude.{is_some}
 use Rattle.std.proofs.lemmas.List.{take-append-drop}
-use Rattle.safl_net.specs.Netlist.{Netlist}
-use Rattle.safl_net.specs.Written.{written}
 use Rattle.safl_verilog.specs.Laws.{WrittenReads, NoShorterText}
 use Rattle.safl_vwrite.proofs.Tearing.{torn}
-use Rattle.safl_net.specs.Rules.{IsNetlist}
-use Rattle.safl_net.specs.Whole.{IsWhole}
 use Rattle.safl_net.specs.Arranged.{IsInOrder}
-use Rattle.safl_term.specs.Program.{Program}
-use Rattle.safl_term.specs.Names.{Names}
-use Rattle.safl_compiler.specs.Sources.{IsSourceOf}
-use Rattle.safl_compiler.specs.Circuits.{IsCircuitOf}
-use Rattle.safl_sim.specs.declared.done.Done.{Done}
 use Rattle.safl_tool.specs.Printed.{outcome_lines}
 use Rattle.safl_tool.specs.CommandTasks.{WritesCircuit, outcome_after}
 use Rattle.safl_task.specs.Tasks.{only_prints, only_writes}

@@ -1,20 +1,12 @@
 -- A text is printed or a file is written, by what the shelf and the sink answer.
+use Rattle.safl_tool.proofs.Common.{Bor, Lines, Sends, SendsPart, SinkState, Status, TellsOn, Vec, end_of, only_writes, outside}
 use Rattle.std.proofs.Common.{◌≡◌, ℕ, List, [], ◌∷◌, Contains, refl, arith}
-use Rattle.std.specs.Borrow.{Bor}
 use Rattle.std.specs.declared.alloc.Global.{Global}
-use Rattle.std.specs.declared.vec.Vec.{Vec}
 use Rattle.safl_io.specs.Shelf.{ShelfState, Leaves, LeavesOldOrPart}
-use Rattle.safl_io.specs.Told.{TellsOn}
-use Rattle.safl_io.specs.Sink.{SinkState, Sends, SendsPart}
 use Rattle.safl_io.proofs.Telling.{nothing_part, nothing_sent}
-use Rattle.safl_task.specs.Endings.{outside}
-use Rattle.safl_task.specs.Tasks.{end_of}
-use Rattle.safl_task.specs.declared.status.Status.{Status}
 use Rattle.safl_task.proofs.Ending.{same_all, same_parts, leaves_all, leaves_parts}
 use Rattle.safl_tool.specs.Answers.{IsGiven, IsGivenInPart, printed}
-use Rattle.safl_task.specs.Tasks.{only_writes}
 use Rattle.safl_tool.specs.declared.answer.Answer.TheVariants as answer
-use Rattle.safl_tool.specs.declared.answer.Lines.{Lines}
 
 module _ (shelf : ShelfState) (out out' : SinkState) (l : Lines) where
   -- a text is printed, or a part of it

@@ -1,46 +1,31 @@
 -- What is promised is kept, command by command.
+use Rattle.safl_tool.proofs.Common.{Done, EvaluatesEach, GivesReplies, HaveFault, IsAccepted, IsAcyclic, IsOutcome, IsSourceOf, Names}
+use Rattle.safl_tool.proofs.Common.{Netlist, NoFault, Program, Status, Walked, Word, argument_widths, file_within, source_max}
 use Rattle.std.proofs.Common.{◌≡◌, ℕ, zero, suc, List, [], ◌∷◌, Option, Some, None, true, slice_get, refl, sym, ap, subst, arith, inl, inr, codes}
-use Rattle.safl_word.specs.Words.{Word}
-use Rattle.safl_term.specs.Program.{Program}
-use Rattle.safl_term.specs.Names.{Names}
 use Rattle.safl_term.specs.Meaning.{Main}
-use Rattle.safl_net.specs.Netlist.{Netlist}
-use Rattle.safl_net.specs.Valuations.{IsAcyclic}
-use Rattle.safl_net.specs.Arguments.{argument_widths}
-use Rattle.safl_sim.specs.declared.done.Done.{Done}
-use Rattle.safl_run.specs.Calls.{IsOutcome}
 use Rattle.safl_compiler.specs.Laws.{OneProgram, NotBoth}
 use Rattle.safl_verilog.specs.Laws as verilog
-use Rattle.safl_aiger.specs.ReadLaws.{NoFault}
-use Rattle.safl_core.specs.declared.walking.Walked.{Walked}
 use Rattle.safl_command.specs.Commands.{Command, Check, Build, Sim, Walk, Run, Optimise, Report, Gen, Bench, CopySite, UnfoldSite, Session, Aig, Aigstat}
 use Rattle.std.specs.Prelude.{is_some, false, Bool}
 use Rattle.safl_command.specs.Traces.{Traces}
 use Rattle.safl_tool.specs.Tracing.{have_probes, files_for}
-use Rattle.safl_tool.specs.Sources.{IsAccepted}
 use Rattle.safl_session.specs.Lines.{IsArgument, AreArguments}
-use Rattle.safl_tool.specs.Arguments.{HaveFault}
 use Rattle.safl_tool.specs.Simulating.{Simulates, IsMisgiven, Limited, InCycles, InEvents, Evaluates}
 use Rattle.safl_tool.specs.Walking.{MainGives, Walks}
 use Rattle.safl_tool.specs.Running.{RunsText, IsMisrun, IsUnrunnable, faulty, looped, Finishes}
-use Rattle.safl_task.specs.Inputs.{file_within}
 use Rattle.safl_task.specs.Limits.{script_max, verilog_max, aig_max}
-use Rattle.safl_word.specs.Limits.{source_max}
 use Rattle.safl_task.specs.Tasks.{Input, Given, Only, Both, reading, reading_both}
 use Rattle.safl_tool.specs.CommandTasks.{task_if, usage_task, reshape_task, command_task, traces_in, task_of}
 use Rattle.safl_tool.specs.CommandTasks.{RefusesSourceOf, RefusesGiven, RefusesText, GivesNumbers, GivesCircuit, GivesOptimised, GivesTraces}
 use Rattle.safl_tool.specs.CommandTasks.{GivesWalk, GivesRun, end_of_walk, GivesMeasure, RefusesReshaping, RefusesSession}
 use Rattle.safl_tool.specs.BitLevel.{GivesBits, GivesCounts, HasBits, IsAig, RefusesAig, RefusesBitsOf}
-use Rattle.safl_tool.specs.Calling.{GivesReplies, EvaluatesEach}
 use Rattle.safl_session.specs.Circuits.{CircuitsReply, ResetIsQuiet}
 use Rattle.safl_session.specs.Laws as sessions
 use Rattle.safl_tree.specs.Laws.{OneProgram as OneTree}
 use Rattle.safl_session.proofs.WordsOfLines.{args_long, args_once}
-use Rattle.safl_compiler.specs.Sources.{IsSourceOf}
 use Rattle.safl_tool.specs.Reshaping.{Reshaping, copies, unfolds, IsReshapable, GivesReshaped}
 use Rattle.safl_tool.proofs.Reshaped.{reshapable_not_refused}
 use Rattle.safl_tool.specs.Reporting.{GivesReport, Measures, made_source, made_args}
-use Rattle.safl_task.specs.declared.status.Status.{Status}
 use Rattle.safl_task.proofs.Following.{IsKept, Refusing, Giving}
 use Rattle.safl_tool.proofs.Simulated.{read_words}
 use Rattle.safl_tool.proofs.Bits.{bits_not_refused, aig_not_refused}

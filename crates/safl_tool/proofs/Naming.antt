@@ -1,10 +1,7 @@
 -- How the names of wires are put together.
+use Rattle.safl_tool.proofs.Common.{AreKnown, Netlist, Sig, name_at, numbers}
 use Rattle.std.proofs.Common.{◌≡◌, ℕ, zero, suc, ◌+◌, ◌<◌, ◌≤◌, List, [], ◌∷◌, ◌++◌, map, length, drop, Some, slice_get, slice_index_or, String}
 use Rattle.std.proofs.Common.{Global, string_bytes, refl, sym, ap, ◌∙◌, arith, append_assoc}
-use Rattle.safl_net.specs.declared.cell.Sig.{Sig}
-use Rattle.safl_net.specs.Netlist.{Netlist}
-use Rattle.safl_net.specs.Making.{numbers, name_at}
-use Rattle.safl_tool.specs.Running.{AreKnown}
 use Rattle.safl_tool.specs.VerilogLines.{spaced, spaced_name}
 use Rattle.std.proofs.lemmas.List.{append-nil, drop_all}
 

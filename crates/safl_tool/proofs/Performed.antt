@@ -1,28 +1,20 @@
 -- A command is done, by what its parts answer.
+use Rattle.safl_tool.proofs.Common.{Answer, Files, ProbeState, Refusal, SameProbes, ShelfState, Status, TellsOn, false≢true, usage_line}
 use Rattle.std.proofs.Common.{◌≡◌, ◌∙◌, ℕ, List, Bool, true, false, Option, Some, None, Result, Ok, Err, Contains, refl, sym, ap, subst, inr, get_or, [], arith}
 use Rattle.std.specs.Prelude.{OnSome}
-use Rattle.std.proofs.lemmas.Bool.{false≢true}
 use Rattle.safl_io.specs.Counts.{Rose}
-use Rattle.safl_io.specs.Shelf.{Files, ShelfState}
-use Rattle.safl_io.specs.Told.{TellsOn}
-use Rattle.safl_probe.specs.Probing.{ProbeState}
 use Rattle.safl_probe.specs.Asked.{Asked, SameUnasked}
-use Rattle.safl_probe.specs.Stopping.{SameProbes}
 use Rattle.safl_command.specs.Commands.{Command}
 use Rattle.safl_task.specs.Endings.{Outside, outside, LeavesAll, LeavesParts, Began, Ended, refused, unwritten, unprinted, unprobed, starved}
 use Rattle.safl_task.specs.Inputs.{OnlyReads}
 use Rattle.safl_task.specs.Tasks.{Input, Task, AreContents, HoldsInputs, files_of}
-use Rattle.safl_task.specs.declared.status.Status.{Status}
 use Rattle.safl_task.specs.declared.status.Status.TheVariants as status
 use Rattle.safl_task.proofs.Reading.{strays_on}
 use Rattle.safl_tool.specs.Answers.{Answers, IsGiven, IsGivenInPart, GivingFails, GivesBy}
 use Rattle.safl_tool.specs.CommandTasks.{task_if, command_task, usage_task, traces_in}
-use Rattle.safl_tool.specs.Lines.{usage_line}
 use Rattle.safl_tool.specs.Refusals.{StopsBy, TellsProbe}
 use Rattle.safl_tool.specs.Tracing.{AreAskedFor, asked_by, have_probes, kinds_of}
 use Rattle.safl_tool.specs.Worlds.{World, Does, DoesCommand, Spares, SparesFor}
-use Rattle.safl_tool.specs.declared.answer.Answer.{Answer}
-use Rattle.safl_tool.specs.declared.refusal.Refusal.{Refusal}
 use Rattle.safl_tool.specs.declared.refusal.Refusal.TheVariants as refusal
 
 -- the files were read, and the answer to them was given

@@ -1,19 +1,9 @@
 -- What commands come to at status Ok, from how a call ends.
+use Rattle.safl_tool.proofs.Common.{Files, IsSomeAnd, Names, Netlist, Program, Sends, SinkState, Status, TellsOn, Word, as_word}
+use Rattle.safl_tool.proofs.Common.{bytes_eq-Decides, file_of, file_within, option_or, reset_state, source_max, until_done, written}
 use Rattle.std.proofs.Common.{◌≡◌, ◌≤◌, ◌∙◌, ℕ, List, [], ◌∷◌, ◌++◌, length, Bool, true, false, Option, Some, None, bytes_eq, if◌then◌else◌, refl, sym, ap, subst, inl, inr, codes}
-use Rattle.safl_term.specs.Names.{Names}
-use Rattle.std.specs.Prelude.{IsSomeAnd}
-use Rattle.std.specs.Option.{option_or}
 use Rattle.std.proofs.lemmas.Bool.{eqb-true}
-use Rattle.std.proofs.lemmas.Slice.Eq.{bytes_eq-Decides}
-use Rattle.safl_word.specs.Words.{Word, as_word}
-use Rattle.safl_io.specs.Shelf.{Files, file_of}
-use Rattle.safl_io.specs.Told.{TellsOn}
-use Rattle.safl_io.specs.Sink.{SinkState, Sends}
-use Rattle.safl_net.specs.Netlist.{Netlist}
-use Rattle.safl_net.specs.Valuations.{reset_state}
-use Rattle.safl_net.specs.Written.{written}
 use Rattle.safl_sim.specs.declared.done.Done.{Done as Reply}
-use Rattle.safl_term.specs.Program.{Program}
 use Rattle.safl_session.specs.Circuits.{Serves}
 use Rattle.safl_session.specs.Transcripts.{reply_lines, calls_line, late_line, are_all}
 use Rattle.safl_command.specs.Arranged.{GivenOption, IsUnhyphened, Arranged, ends, then_word, then_option}
@@ -23,19 +13,15 @@ use Rattle.safl_command.proofs.SaidWords.{build_words, optimise_words}
 use Rattle.safl_command.proofs.SaidLines.{check_lines, optimise_lines, sim_lines, session_lines, aig_lines}
 use Rattle.safl_word.specs.Numerals.{value}
 use Rattle.safl_command.specs.Apart.{Traces, are_apart}
-use Rattle.safl_task.specs.Inputs.{file_within}
 use Rattle.safl_task.specs.Limits.{script_max, verilog_max}
-use Rattle.safl_word.specs.Limits.{source_max}
 use Rattle.safl_task.specs.Tasks.{Input, Given, Only, Both, AreContents, OfFile, end_of, files_of, only_writes, status_if}
 use Rattle.safl_task.specs.Endings.{Outside, LeavesAll, Gave}
-use Rattle.safl_task.specs.declared.status.Status.{Status}
 use Rattle.safl_task.specs.declared.status.Status.TheVariants as status
 use Rattle.safl_task.proofs.Following.{gave_at_ok}
 use Rattle.safl_tool.specs.BitLevel.{GivesBits, IsConverted}
 use Rattle.safl_tool.specs.Calling.{Converses as Conversed, GivesReplies, told}
 use Rattle.safl_tool.specs.CommandTasks.{WritesCircuit, GivesNumbers, GivesOptimised, GivesTraces, command_task, task_if, traced, traces_in, usage_task}
 use Rattle.safl_tool.specs.Simulating.{Simulates as Simulated}
-use Rattle.safl_probe.specs.Runs.{until_done}
 use Rattle.safl_tool.specs.Tracing.{have_probes, kinds_of, traces_of}
 use Rattle.safl_tool.specs.Headline.{SayBuild, IsBuilt, Turns}
 use Rattle.safl_tool.specs.Promises.{Say, IsPrinted, IsChecked, IsSimulated, EachReply, IsSession}

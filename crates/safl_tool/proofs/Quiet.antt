@@ -1,15 +1,12 @@
 -- Nothing is given at a status with which a command refuses what it reads.
+use Rattle.safl_tool.proofs.Common.{Status, copies, made_args, made_source, may_give, unfolds}
 use Rattle.std.proofs.Common.{◌≡◌, ℕ, List, [], ◌∷◌, false}
 use Rattle.std.specs.Prelude.{codes}
 use Rattle.safl_command.specs.Commands.{Command, Check, Build, Sim, Walk, Run, Optimise, Report, Gen, Bench, CopySite, UnfoldSite, Session, Aig, Aigstat}
 use Rattle.safl_tool.specs.CommandTasks.{command_task, RefusesSourceOf, RefusesGiven, RefusesText, RefusesReshaping, RefusesSession}
 use Rattle.safl_tool.specs.BitLevel.{RefusesAig, RefusesBitsOf}
-use Rattle.safl_tool.specs.Reshaping.{copies, unfolds}
 use Rattle.safl_tool.proofs.Reshaped.{reshaping_quiet}
-use Rattle.safl_task.specs.Endings.{may_give}
-use Rattle.safl_tool.specs.Reporting.{made_args, made_source}
 use Rattle.safl_task.specs.Tasks.{Only, Both}
-use Rattle.safl_task.specs.declared.status.Status.{Status}
 use Rattle.safl_tool.proofs.Simulated.{source_quiet, given_quiet}
 use Rattle.safl_tool.proofs.Ran.{text_quiet}
 use Rattle.safl_tool.proofs.Bits.{bits_quiet, aig_quiet}

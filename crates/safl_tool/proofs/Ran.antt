@@ -1,6 +1,6 @@
 -- What a run of a Verilog file says.
+use Rattle.safl_tool.proofs.Common.{HasLine, Refusal, RefusesArguments, RefusesBy, Status, argument_widths, may_give, slice_get_within}
 use Rattle.std.proofs.Common.{◌≡◌, ℕ, zero, suc, ◌<◌, List, [], ◌∷◌, map, length, Option, Some, None, false, slice_get, refl, ap, subst, inl, inr}
-use Rattle.std.proofs.lemmas.Option.{slice_get_within}
 use Rattle.safl_net.specs.Netlist.{Netlist, Signal}
 use Rattle.safl_net.specs.Making.{kind_in, cell_in, name_at}
 use Rattle.safl_order.specs.Laws.{LoopsAreCyclic}
@@ -8,16 +8,10 @@ use Rattle.safl_order.specs.Order.{operands_in, Leads, IsLoop}
 use Rattle.safl_order.specs.Order
 use Rattle.safl_verilog.specs.declared.fault.VFault.{VFault}
 use Rattle.safl_verilog.specs.Reads.{Reads, HasFault}
-use Rattle.safl_net.specs.Arguments.{argument_widths}
 use Rattle.safl_tool.specs.CommandTasks.{RefusesNet, RefusesText}
-use Rattle.safl_task.specs.Endings.{may_give}
 use Rattle.safl_tool.specs.VerilogLines.{verilog_line, loop_line}
 use Rattle.safl_tool.specs.Running.{AreKnown, IsRunnable, faulty, looped}
-use Rattle.safl_tool.specs.Refusals.{RefusesBy, HasLine}
-use Rattle.safl_tool.specs.Arguments.{RefusesArguments}
-use Rattle.safl_task.specs.declared.status.Status.{Status}
 use Rattle.safl_task.specs.declared.status.Status.TheVariants as status
-use Rattle.safl_tool.specs.declared.refusal.Refusal.{Refusal}
 use Rattle.safl_tool.proofs.Refusing.{refuses_more}
 
 -- nothing is given where a text, or its arguments, are refused

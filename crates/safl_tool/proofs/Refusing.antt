@@ -1,19 +1,16 @@
 -- What a refusal says of a command.
+use Rattle.safl_tool.proofs.Common.{IfOk, Refusal, SinkState, Status}
 use Rattle.std.proofs.Common.{◌≡◌, ℕ, List, Result, Ok, Err, false, sym, subst, inl, inr}
-use Rattle.std.specs.Prelude.{IfOk}
-use Rattle.safl_io.specs.Sink.{SinkState}
 use Rattle.safl_task.specs.Endings.{Outside, Untouched, Stops, refused, unread, long, starved, Ends, told, cut, may_give}
 use Rattle.safl_task.specs.Inputs.{AreUnread}
 use Rattle.safl_task.specs.Lines.{memory_line, read_line, long_line}
 use Rattle.safl_task.specs.Tasks.{Task, AreContents}
 use Rattle.safl_task.specs.declared.input.Unread.{Unread}
 use Rattle.safl_task.specs.declared.input.Unread.TheVariants as unread_by
-use Rattle.safl_task.specs.declared.status.Status.{Status}
 use Rattle.safl_task.specs.declared.status.Status.TheVariants as status
 use Rattle.safl_task.proofs.Ending.{stop_left}
 use Rattle.safl_tool.specs.Refusals.{StopsBy, RefusesBy, IsOfUnread, SendsLine, sent, SendsRefusal, made, unmade, status_of, line_of}
 use Rattle.safl_tool.specs.Refusals as refusals
-use Rattle.safl_tool.specs.declared.refusal.Refusal.{Refusal}
 
 -- what refuses for one reason refuses for another that follows
 pub refuses_more : (P Q : Status → List ℕ → Type 0) → ((s : Status) (line : List ℕ) → P s line → Q s line) → (r : Refusal) → RefusesBy P r → RefusesBy Q r

@@ -1,4 +1,5 @@
 -- A source that is reshaped.
+use Rattle.safl_tool.proofs.Common.{Given, OneProgram, Program, Refusal, RefusesBy, Status, may_give, only_writes, source_max}
 use Rattle.std.proofs.Common.{◌≡◌, ℕ, ◌<◌, ◌≤◌, List, length, refl, ap, subst, ◌∙◌, arith, inl, inr, codes, false}
 use Rattle.safl_tree.specs.Tree.{Definition}
 use Rattle.safl_tree.specs.Source.{SpellsProgram}
@@ -6,7 +7,6 @@ use Rattle.safl_tree.specs.Printed.{printed}
 use Rattle.safl_tree.specs.Printable.{IsPrintable, AllKeepLevels}
 use Rattle.safl_tree.specs.Laws.{OneProgram as OneTree}
 use Rattle.safl_tree.proofs.PrintedPrograms.{printed_spells}
-use Rattle.safl_term.specs.Program.{Program}
 use Rattle.safl_typing.specs.Forms.{Form, IsFormOf, HasForm}
 use Rattle.safl_check.specs.Numbered.{program_in, names_in}
 use Rattle.safl_reshape.specs.declared.error.ReshapeErr.{ReshapeErr}
@@ -18,18 +18,11 @@ use Rattle.safl_reshape.specs.Refusals.{CopyRefused, UnfoldingRefused, RefusesCo
 use Rattle.safl_reshape.specs.Refusals.{PassesLimit, is_grouped, is_taken, name_for}
 use Rattle.safl_reshape.proofs.LevelsUnplaced.{spelled_keeps}
 use Rattle.safl_compiler.specs.Sources.{HasFewSites}
-use Rattle.safl_compiler.specs.Laws.{OneProgram}
 use Rattle.safl_tool.specs.CommandTasks.{RefusesSourceOf, RefusesReshaping}
-use Rattle.safl_word.specs.Limits.{source_max}
 use Rattle.safl_word.proofs.Lexemes.{clash}
 use Rattle.safl_tool.specs.Lines.{site_line}
-use Rattle.safl_tool.specs.Refusals.{RefusesBy}
 use Rattle.safl_tool.specs.Reshaping.{Reshaping, NoText, NoCopy, NoUnfolding, IsUnshaped, IsReshapable, GivesReshaped, limit_text, HasReason, TellsReason, TellsLong}
-use Rattle.safl_task.specs.Endings.{may_give}
-use Rattle.safl_task.specs.Tasks.{Given, only_writes}
-use Rattle.safl_task.specs.declared.status.Status.{Status}
 use Rattle.safl_task.specs.declared.status.Status.TheVariants as status
-use Rattle.safl_tool.specs.declared.refusal.Refusal.{Refusal}
 use Rattle.safl_tool.proofs.Refusing.{refuses_more}
 
 module _ (r : Reshaping) (name : List ℕ) (site : ℕ) (source : List ℕ) where

@@ -1,36 +1,21 @@
 -- What a run of a compiled source says.
+use Rattle.safl_tool.proofs.Common.{AreWordsOf, CheckedProgram, Done, GivesOutcome, HaveFault, IsCircuitOf, IsCompiled, IsSourceOf, Names}
+use Rattle.safl_tool.proofs.Common.{Program, Refusal, RefusesArguments, RefusesBy, Status, Word, argument_widths, as_word, may_give}
 use Rattle.std.specs.Prelude.{IfSome}
 use Rattle.std.proofs.Common.{◌≡◌, ℕ, List, [], ◌∷◌, ◌++◌, map, Option, Some, None, slice_get, false, refl, sym, ap, subst, ◌∙◌, inl, inr, codes}
-use Rattle.safl_term.specs.Names.{Names}
-use Rattle.safl_word.specs.Words.{Word, as_word}
 use Rattle.safl_net.specs.Netlist.{Netlist, output_place}
 use Rattle.safl_net.specs.Valuations.{Valuation, read_output, reset_state}
-use Rattle.safl_sim.specs.declared.done.Done.{Done}
-use Rattle.safl_net.specs.Arguments.{argument_widths}
 use Rattle.safl_run.specs.Calls.{IsOutcome, Replies}
-use Rattle.safl_term.specs.Program.{Program}
-use Rattle.safl_term.specs.WellFormed.{AreWordsOf}
-use Rattle.safl_term.specs.Checked.{CheckedProgram}
 use Rattle.safl_circuit.specs.Correct.{IsResult}
 use Rattle.safl_sites.specs.Plan.{Choice}
 use Rattle.safl_word.proofs.Lists.{get_seam}
 use Rattle.safl_sim.proofs.WordsOfNumbers.{word_bits}
 use Rattle.safl_circuit.specs.Theorem.{IsCircuit}
-use Rattle.safl_compiler.specs.Sources.{IsSourceOf}
-use Rattle.safl_compiler.specs.Circuits.{IsCircuitOf}
-use Rattle.safl_tool.specs.Sources.{IsCompiled}
 use Rattle.safl_session.specs.Lines.{AreArguments as AreRead}
-use Rattle.safl_tool.specs.Arguments.{HaveFault}
 use Rattle.safl_tool.specs.CommandTasks.{RefusesSourceOf, RefusesGiven}
-use Rattle.safl_task.specs.Endings.{may_give}
 use Rattle.safl_tool.specs.Reporting.{HasHead, Measures}
-use Rattle.safl_tool.specs.Running.{GivesOutcome}
 use Rattle.safl_session.specs.Circuits.{IsMainReply}
 use Rattle.safl_tool.specs.Simulating.{Simulates}
-use Rattle.safl_tool.specs.Refusals.{RefusesBy}
-use Rattle.safl_tool.specs.Arguments.{RefusesArguments}
-use Rattle.safl_task.specs.declared.status.Status.{Status}
-use Rattle.safl_tool.specs.declared.refusal.Refusal.{Refusal}
 use Rattle.safl_tool.proofs.Refusing.{refuses_more}
 
 -- nothing is given where a source, or its arguments, are refused

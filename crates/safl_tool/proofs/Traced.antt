@@ -1,39 +1,21 @@
 -- How a run with traces is given, by what its parts answer.
+use Rattle.safl_tool.proofs.Common.{AreApart, AreWords, Asked, Done, Given, IsAcyclic, IsAsked, IsNetlist, IsOutcome, IsReadyOf, IsRunOf}
+use Rattle.safl_tool.proofs.Common.{IsSomeAnd, IsWhole, Lines, Netlist, ProbeState, Ready, Refusal, Sends, SendsPart, Status, TellsOn}
+use Rattle.safl_tool.proofs.Common.{Valuation, WatchingFails, Word, end_of, files_of, resets, trace_at, until_done}
 use Rattle.std.proofs.Common.{◌≡◌, ◌⊎◌, ℕ, List, [], ◌∷◌, take, true, Option, Some, None, Result, Ok, Err, refl, sym, ap, subst, ◌∙◌, inl, inr, arith}
-use Rattle.std.specs.Prelude.{IsSomeAnd}
-use Rattle.safl_word.specs.Words.{Word, AreWords}
 use Rattle.safl_io.specs.Shelf.{Files, ShelfState, SameFaults, file_of}
-use Rattle.safl_io.specs.Sink.{Sends, SendsPart}
-use Rattle.safl_io.specs.Told.{TellsOn}
 use Rattle.safl_io.proofs.Telling.{TellsOn-then, nothing_part}
-use Rattle.safl_net.specs.Netlist.{Netlist}
-use Rattle.safl_net.specs.Rules.{IsNetlist}
-use Rattle.safl_net.specs.Valuations.{Valuation, IsAcyclic}
-use Rattle.safl_net.specs.Whole.{IsWhole}
 use Rattle.safl_net.specs.Arguments.{argument_widths, AreArguments as AreFit}
-use Rattle.safl_sim.specs.Places.{resets}
-use Rattle.safl_run.specs.Calls.{IsOutcome}
-use Rattle.safl_sim.specs.declared.done.Done.{Done}
-use Rattle.safl_probe.specs.Probing.{ProbeState}
-use Rattle.safl_probe.specs.Asked.{Asked, AreApart, IsAsked}
 use Rattle.safl_probe.specs.Ending.{Ending, RunsEnd}
 use Rattle.safl_probe.specs.Growth.{AllGrow, Made, OldOrPart}
-use Rattle.safl_probe.specs.Runs.{IsRunOf, until_done, trace_at}
 use Rattle.safl_command.specs.Traces.{Traces, are_apart, shown_traces}
 use Rattle.safl_session.specs.Lines.{AreArguments}
 use Rattle.safl_task.specs.Endings.{Outside, outside, LeavesAll, LeavesParts}
-use Rattle.safl_task.specs.Tasks.{Given, end_of, files_of}
-use Rattle.safl_task.specs.declared.status.Status.{Status}
 use Rattle.safl_task.proofs.Ending.{all_parts}
 use Rattle.safl_tool.specs.Answers.{CanRun, IsGiven, IsGivenInPart, GivingFails, GivesBy, IsTraced, printed}
 use Rattle.safl_tool.specs.CommandTasks.{outcome, traced, GivesTraces}
-use Rattle.safl_tool.specs.Readiness.{IsReadyOf}
-use Rattle.safl_tool.specs.Refusals.{WatchingFails}
 use Rattle.safl_tool.specs.Tracing.{AreAskedFor, files_for, traces_of, kinds_of}
 use Rattle.safl_tool.specs.declared.answer.Answer.TheVariants as answer
-use Rattle.safl_tool.specs.declared.answer.Lines.{Lines}
-use Rattle.safl_tool.specs.declared.ready.Ready.{Ready}
-use Rattle.safl_tool.specs.declared.refusal.Refusal.{Refusal}
 use Rattle.safl_tool.specs.declared.refusal.Refusal.TheVariants as refusal
 use Rattle.safl_tool.specs.declared.tracing.TracedRun.{TracedRun}
 use Rattle.safl_tool.proofs.Asked.{asked_apart, asked_output, files_whole, files_parts}

@@ -1,9 +1,7 @@
 -- What a walk of a new machine says of its program.
+use Rattle.safl_tool.proofs.Common.{CheckedProgram, Walked, Word, false≢true}
 use Rattle.std.proofs.Common.{◌≡◌, ℕ, ◌+◌, ◌-◌, ◌*◌, ◌<◌, List, Option, Some, None, sym, ap, subst, ◌∙◌, arith, inl, inr}
 use Rattle.std.specs.Prelude.{IfSome, IfNone, IsSome}
-use Rattle.std.proofs.lemmas.Bool.{false≢true}
-use Rattle.safl_word.specs.Words.{Word}
-use Rattle.safl_term.specs.Checked.{CheckedProgram}
 use Rattle.safl_term.proofs.HeldByChecked.{main_is_last}
 use Rattle.safl_term.specs.Meaning.{Main, main_cost, loops}
 use Rattle.safl_term.specs.Readiness.{back_word}
@@ -12,7 +10,6 @@ use Rattle.safl_core.specs.Outcomes.{IsValue}
 use Rattle.safl_core.specs.Shown.{Shown, Opens, state}
 use Rattle.safl_core.specs.Walking as turns
 use Rattle.safl_core.specs.Walking.{IsWalk, IsShort}
-use Rattle.safl_core.specs.declared.walking.Walked.{Walked}
 use Rattle.safl_tool.specs.Walking.{MainGives, WalksFrom}
 
 -- main is the last function

@@ -1,12 +1,7 @@
 -- What becomes of the probes that a command asks, by what its parts answer.
+use Rattle.safl_tool.proofs.Common.{Answer, AreAskedFor, Asked, Bor, Files, IfOk, IsReadyOf, MatchResult, Netlist, ProbeState, Ready}
+use Rattle.safl_tool.proofs.Common.{Refusal, SinkState, Status, command_task, content_at, traces_in}
 use Rattle.std.proofs.Common.{◌≡◌, ◌∙◌, ℕ, List, [], ◌∷◌, Bool, true, false, Option, Some, None, Result, Ok, Err, OnOk, refl, sym, ap, subst, inl, inr}
-use Rattle.std.specs.Prelude.{IfOk, MatchResult}
-use Rattle.std.specs.Borrow.{Bor}
-use Rattle.safl_io.specs.Shelf.{Files}
-use Rattle.safl_io.specs.Sink.{SinkState}
-use Rattle.safl_net.specs.Netlist.{Netlist}
-use Rattle.safl_probe.specs.Probing.{ProbeState}
-use Rattle.safl_probe.specs.Asked.{Asked}
 use Rattle.safl_command.specs.Commands.{Command, Sim, shown_command}
 use Rattle.safl_command.specs.declared.command.Command as code
 use Rattle.safl_command.specs.declared.command.Command.TheVariants as command
@@ -16,19 +11,11 @@ use Rattle.safl_session.specs.Lines.{AreArguments}
 use Rattle.safl_task.specs.Endings.{Outside, Ended, may_give}
 use Rattle.safl_task.specs.Lines.{memory_line}
 use Rattle.safl_task.specs.Tasks.{Input, Task, AreContents, OfInputs, Only, status_if}
-use Rattle.safl_task.specs.declared.status.Status.{Status}
 use Rattle.safl_task.specs.declared.status.Status.TheVariants as status
 use Rattle.safl_tool.specs.Answers.{GivesBy}
-use Rattle.safl_tool.specs.CommandTasks.{command_task, traces_in}
-use Rattle.safl_tool.specs.Readiness.{IsReadyOf}
-use Rattle.safl_tool.specs.Reading.{content_at}
 use Rattle.safl_tool.specs.Refusals.{SendsLine, sent, cut, SendsRefusal, made, unmade, status_of, line_of}
-use Rattle.safl_tool.specs.Tracing.{AreAskedFor}
 use Rattle.safl_tool.specs.Watched.{IsShown, IsShownRun, ShowsCommand, ShowsAnswer, ShowsFor, Attends, WatchesFor, AttendsFor, Attended}
-use Rattle.safl_tool.specs.declared.answer.Answer.{Answer}
 use Rattle.safl_tool.specs.declared.answer.Answer.TheVariants as answer
-use Rattle.safl_tool.specs.declared.ready.Ready.{Ready}
-use Rattle.safl_tool.specs.declared.refusal.Refusal.{Refusal}
 use Rattle.safl_tool.specs.declared.refusal.Refusal.TheVariants as refusal
 use Rattle.safl_tool.proofs.Answered.{given_on, one_is}
 use Rattle.safl_tool.proofs.Simulated.{has_value, read_words}

@@ -1,14 +1,10 @@
 -- The classes of tokens by their texts are the classes by their codes.
+use Rattle.safl_tree.proofs.Common.{Key, Only, Sym, TokenKind, key_text, sym_text, within}
 use Rattle.std.proofs.Common.{◌≡◌, ℕ, Bool, cond, [], ◌∷◌, Option, Some, None, refl, ap, bytes_eq}
 use mathlib.Core.Path.{fun_ext}
-use Rattle.safl_grammar.specs.Sets.{Only, within}
-use Rattle.safl_word.specs.declared.token.Key.{Key}
 use Rattle.safl_word.specs.declared.token.Key.TheVariants as keys
-use Rattle.safl_word.specs.declared.token.Sym.{Sym}
 use Rattle.safl_word.specs.declared.token.Sym.TheVariants as syms
-use Rattle.safl_word.specs.declared.token.TokenKind.{TokenKind}
 use Rattle.safl_word.specs.declared.token.TokenKind.TheVariants as kinds
-use Rattle.safl_word.specs.Tokens.{key_text, sym_text}
 use Rattle.safl_word.specs.Operators.{layer, operator_with}
 use Rattle.safl_tree.specs.Terminals.{Terminal, text_in, spelled, comes_spelled, NameAt, named, name_token, NumberAt, numbered, number_at, SizedAt, with_width, sized_at, operator_at}
 use Rattle.safl_tree.specs.Codes.{word_code, symbol_code, code_of, comes, marked, name, number_in, number, width_in, value_in, sized, operators, primitive_in, operator}

@@ -1,18 +1,13 @@
 -- How much is left to do while an expression is taken apart.
+use Rattle.safl_tree.proofs.Common.{Arm, Bind, Expr, Node, Primitive, sum_by}
 use Rattle.std.proofs.Common.{◌≡◌, ℕ, ◌+◌, ◌<◌, ◌≤◌, refl, arith, List, [], ◌∷◌, Option, Vec, Box, Global, ap, subst, ◌∙◌}
-use Rattle.std.specs.List.{sum_by}
 use Rattle.std.proofs.lemmas.List.Sums.{sum_by-cons}
 use Rattle.std.specs.Prelude.{IfSome}
-use Rattle.safl_word.specs.declared.primitive.Primitive.{Primitive}
 use Rattle.safl_word.specs.Naturals.{work}
 use Rattle.safl_tree.specs.Tree.{Tree, Op, Call, trees_of, binds_of, arms_of}
 use Rattle.safl_tree.specs.Shown.{shown_tree, shown_node, shown_trees, shown_bounds, shown_labelled}
 use Rattle.safl_tree.specs.Sizes.{work_at, size, size_of_trees, size_of_binds, size_of_arms, bind_size, arm_size}
 use Rattle.safl_tree.specs.declared.dismantle.At.{At}
-use Rattle.safl_tree.specs.declared.tree.Expr.{Expr}
-use Rattle.safl_tree.specs.declared.tree.Bind.{Bind}
-use Rattle.safl_tree.specs.declared.tree.Arm.{Arm}
-use Rattle.safl_tree.specs.declared.tree.Node.{Node}
 use Rattle.safl_tree.specs.declared.tree.Node.TheVariants as nodes
 use Rattle.safl_tree.specs.declared.tree.Node.TheVariants.{Num, Sized, Var, If', Let', Case, Case', Op', Call'}
 use Rattle.safl_tree.proofs.ShownTrees.{op_shows, call_shows, let_shows, case_shows}

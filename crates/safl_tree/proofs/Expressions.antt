@@ -1,9 +1,8 @@
 -- The reader of operators and of expressions answers as the grammar says.
+use Rattle.safl_tree.proofs.Common.{ArmList, Parses, Reading, parses_nothing, read_limited, shallow}
 use Rattle.std.proofs.Common.{◌≡◌, ℕ, true, false, List, [], ◌∷◌, ◌++◌, Some, None, refl}
 use Rattle.safl_grammar.specs.Sets.{Set, Every, Only, subset, apart}
 use Rattle.safl_grammar.specs.Syntax.{Deep, Syntax}
-use Rattle.safl_grammar.specs.Reading.{Reading, read_limited}
-use Rattle.safl_grammar.proofs.Parses.{Parses, parses_nothing}
 use Rattle.safl_grammar.proofs.Tokens.{parses_limited}
 use Rattle.safl_grammar.proofs.Rules.{then, or_else, repeated, narrowed}
 use Rattle.safl_word.specs.declared.token.Key.TheVariants as keys
@@ -13,7 +12,6 @@ use Rattle.safl_tree.specs.Tree.{Tree, If, Let, Cases, Op, Bound, Labelled, tree
 use Rattle.safl_tree.specs.Terminals.{Terminal, operator_at}
 use Rattle.safl_tree.specs.Codes.{code, word_code, symbol_code, operators, operator}
 use Rattle.safl_tree.specs.Grammar
-use Rattle.safl_tree.specs.Grammar.{shallow, ArmList}
 use Rattle.safl_tree.specs.Reader.{read_inverted, read_unary, read_joined, read_chained, read_compared, read_layer, read_chain, read_choice}
 use Rattle.safl_tree.specs.Reader.{read_written, read_bind, read_another_bind, read_binds, read_binding, read_label, read_arm, read_last_arm}
 use Rattle.safl_tree.specs.Reader.{read_arms, read_cases, read_expr, comma}

@@ -1,27 +1,19 @@
 -- What is read has the form of a printable program and keeps the levels: the facts of each symbol.
+use Rattle.safl_tree.proofs.Common.{Definition, IsSourceName, IsToken, Key, Only, Primitive, Sym, TokenKind, cond_some, le-leb, leb-true}
+use Rattle.safl_tree.proofs.Common.{ltb-true, read_limited, read_token, within}
 use Rattle.std.proofs.Common.{◌≡◌, ℕ, suc, ◌<◌, ◌≤◌, leb, Bool, true, false, cond, List, [], ◌∷◌, Some, refl, sym, ap, subst, arith, zero}
-use Rattle.std.proofs.lemmas.Bool.{leb-true, ltb-true, le-leb}
-use Rattle.std.proofs.lemmas.Option.{cond_some}
 use Rattle.std.specs.Prelude.{slice_get}
-use Rattle.safl_grammar.specs.Sets.{Only, within}
 use Rattle.safl_grammar.specs.Syntax.{Range}
-use Rattle.safl_grammar.specs.Reading.{read_token, read_limited}
 use Rattle.safl_grammar.proofs.Yields.{Yields, yields_token, yields_limited}
-use Rattle.safl_word.specs.declared.token.Key.{Key}
 use Rattle.safl_word.specs.declared.token.Key.TheVariants as keys
-use Rattle.safl_word.specs.declared.token.Sym.{Sym}
 use Rattle.safl_word.specs.declared.token.Sym.TheVariants as syms
-use Rattle.safl_word.specs.declared.token.TokenKind.{TokenKind}
 use Rattle.safl_word.specs.declared.token.TokenKind.TheVariants as kinds
-use Rattle.safl_word.specs.declared.primitive.Primitive.{Primitive}
 use Rattle.safl_word.specs.Limits.{width_max, value_bound}
-use Rattle.safl_word.specs.Tokens.{IsSourceName, IsToken}
 use Rattle.safl_tree.specs.Terminals.{Terminal, NameAt, NumberAt, SizedAt}
 use Rattle.safl_tree.specs.Codes.{code_of, word_code, symbol_code, marked, name, number, number_in, sized, value_in, operators, primitive_in}
 use Rattle.safl_tree.specs.Grammar.{is_written_width, fits_width, fits_sized, fits_index}
 use Rattle.safl_tree.specs.Reader.{read_word, read_symbol, read_width, read_index}
 use Rattle.safl_tree.specs.Printable.{InRange, operands, is_binary, right_context, left_context, below_of, operator_layers, lifted, AreFormedDefinitions, IsFormedDefinition}
-use Rattle.safl_tree.specs.Tree.{Definition}
 
 pub formed_at : (ds : List Definition) (i : ℕ) (d : Definition) → AreFormedDefinitions ds → slice_get ds i ≡ Some d → IsFormedDefinition d
 formed_at [] i d h e = absurd cc

@@ -1,21 +1,13 @@
 -- What is read has the form of a printable program and keeps the levels: expressions.
+use Rattle.safl_tree.proofs.Common.{ArmList, Deep, IsSourceName, Only, Primitive, Reading, TokenKind, cond_some, ltb-true, shallow, within}
 use Rattle.std.proofs.Common.{◌≡◌, ℕ, zero, suc, ◌+◌, ◌<◌, ◌≤◌, Bool, true, List, [], ◌∷◌, ◌++◌, length, Some, None, refl, sym, ap, subst, ◌∙◌, arith}
-use Rattle.std.proofs.lemmas.Bool.{ltb-true}
-use Rattle.std.proofs.lemmas.Option.{cond_some}
-use Rattle.safl_grammar.specs.Sets.{Only, within}
-use Rattle.safl_grammar.specs.Syntax.{Deep}
-use Rattle.safl_grammar.specs.Reading.{Reading}
 use Rattle.safl_grammar.proofs.Yields.{Each, Yields, yields_nothing, yields_below, yields_limited, yields_follows, yields_either, yields_many}
 use Rattle.safl_word.specs.declared.token.Key.TheVariants as keys
 use Rattle.safl_word.specs.declared.token.Sym.TheVariants as syms
-use Rattle.safl_word.specs.declared.token.TokenKind.{TokenKind}
-use Rattle.safl_word.specs.declared.primitive.Primitive.{Primitive}
 use Rattle.safl_word.specs.declared.primitive.Primitive.TheVariants as prims
-use Rattle.safl_word.specs.Tokens.{IsSourceName}
 use Rattle.safl_tree.specs.Tree.{Tree, Number, Sized, Variable, If, Let, Cases, Op, Call, Trees, no_tree, a_tree, Bound, Labelled, trees_of, binds_of, arms_of, place_of, with_place, depth}
 use Rattle.safl_tree.specs.Terminals.{Terminal, NameAt}
 use Rattle.safl_tree.specs.Codes.{code_of, word_code, symbol_code, comes, operators, primitive_in, operator}
-use Rattle.safl_tree.specs.Grammar.{shallow, ArmList}
 use Rattle.safl_tree.specs.Reader.{read_literal, read_sized_literal, read_another, read_exprs, read_no_arguments, read_arguments, read_call}
 use Rattle.safl_tree.specs.Reader.{read_named, read_parenthesised, read_cat, read_bits, read_ext, read_primary, read_inverted, read_unary}
 use Rattle.safl_tree.specs.Reader.{read_joined, read_chained, read_compared, read_layer, read_chain, read_choice, read_written, read_bind}

@@ -1,14 +1,12 @@
 -- Expressions at each level: the levels that are left bound the reader's descent.
+use Rattle.safl_tree.proofs.Common.{Every, Labelled, Only, Terminal}
 use Rattle.std.proofs.Common.{ℕ, zero, suc, false, List, [], ◌∷◌, refl}
-use Rattle.safl_grammar.specs.Sets.{Every, Only}
 use Rattle.safl_grammar.specs.Syntax.{Syntax, below, too_high}
 use Rattle.safl_grammar.specs.Reading.{read_below}
 use Rattle.safl_grammar.proofs.Parses.{Parses, nil_front}
 use Rattle.safl_grammar.proofs.Levels.{parses_below, parses_lowest, parses_high, parses_mix, parses_deep, parses_never, read_never}
 use Rattle.safl_grammar.proofs.Rules.{narrowed}
 use Rattle.safl_grammar.proofs.Small.{Small, small_parses}
-use Rattle.safl_tree.specs.Tree.{Labelled}
-use Rattle.safl_tree.specs.Terminals.{Terminal}
 use Rattle.safl_tree.specs.Codes.{code}
 use Rattle.safl_tree.specs.Grammar
 use Rattle.safl_tree.specs.Reader.{read_unary, read_arms, read_arm, read_expr, operand_at, expr_at, arms_at}

@@ -1,18 +1,13 @@
 -- The words of operators are read again, in every layer.
+use Rattle.safl_tree.proofs.Common.{Deep, Terminal, apart_within, cases_lt, shallow, stops_here, subset_within}
 use Rattle.std.proofs.Common.{◌≡◌, ℕ, zero, suc, ◌<◌, ◌≤◌, Bool, true, false, cond, List, [], ◌∷◌, ◌++◌, length, Ok, refl, sym, ap, subst, ◌∙◌, inl, inr, arith}
-use Rattle.std.proofs.lemmas.Bool.{cases_lt}
 use Rattle.safl_grammar.specs.Sets.{Set, Every, Only, within, subset, apart}
-use Rattle.safl_grammar.specs.Syntax.{Deep}
 use Rattle.safl_grammar.specs.Reading.{Read, Reading, ◌>>=◌, head_of, read_nothing, read_either, read_many}
-use Rattle.safl_grammar.proofs.Sets.{subset_within, apart_within}
-use Rattle.safl_grammar.proofs.Many.{stops_here}
 use Rattle.safl_grammar.proofs.Small.{Small, Eats, small, small_nothing, eats_limited, small_follows, eats_follows, small_either, small_many}
 use Rattle.safl_word.specs.declared.token.Sym.TheVariants as syms
 use Rattle.safl_tree.specs.Tree.{Tree, Number, Sized, Variable, If, Let, Cases, Op, Call, Trees, no_tree, a_tree, Arms, default_arm, an_arm, trees_of}
 use Rattle.safl_tree.specs.Tree.{place_of, with_place, depth, deepest, deepest_bind, deepest_arm, Binds, no_bind, a_bind}
-use Rattle.safl_tree.specs.Terminals.{Terminal}
 use Rattle.safl_tree.specs.Codes.{code, comes, symbol_code, operators, operator}
-use Rattle.safl_tree.specs.Grammar.{shallow}
 use Rattle.safl_tree.specs.Reader.{read_parenthesised, read_primary, read_unary, read_joined, read_chained, read_compared, read_layer, read_chain, operand_at, expr_at}
 use Rattle.safl_tree.proofs.Leaves.{after_layers, after_expr}
 use Rattle.safl_tree.proofs.KeptLevels.{operand_small}

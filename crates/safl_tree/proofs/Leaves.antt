@@ -1,21 +1,17 @@
 -- The reader of leaves and of primary expressions answers as the grammar says.
+use Rattle.safl_tree.proofs.Common.{Key, Parses, Reading, Sym, key_text, parses_nothing, read_either, read_limited, read_token, sym_text}
 use Rattle.std.proofs.Common.{◌≡◌, ℕ, zero, suc, Bool, true, false, cond, List, [], ◌∷◌, ◌++◌, Option, Some, None, refl, sym, subst}
 use Rattle.safl_grammar.specs.Sets.{Set, Every, Only, within, subset, union, union_if}
 use Rattle.safl_grammar.specs.Syntax.{Rule, Range, Syntax, token, limited, either, without_begin}
-use Rattle.safl_grammar.specs.Reading.{Reading, read_token, read_limited, read_either}
-use Rattle.safl_grammar.proofs.Parses.{Parses, parses_nothing}
 use Rattle.safl_grammar.proofs.Tokens.{parses_token, parses_limited}
 use Rattle.safl_grammar.proofs.Same.{same_factored, parses_same}
 use Rattle.safl_grammar.proofs.Rules.{then, or_else, or_unless, repeated}
-use Rattle.safl_word.specs.declared.token.Key.{Key}
 use Rattle.safl_word.specs.declared.token.Key.TheVariants as keys
-use Rattle.safl_word.specs.declared.token.Sym.{Sym}
 use Rattle.safl_word.specs.declared.token.Sym.TheVariants as syms
 use Rattle.safl_word.specs.declared.primitive.Primitive.TheVariants as prims
 use Rattle.safl_tree.specs.Tree.{Tree, Number, Sized, Variable, Op, Call, trees_of, with_place}
 use Rattle.safl_tree.specs.Terminals.{Terminal, spelled, NameAt, name_token, number_at, sized_at}
 use Rattle.safl_tree.specs.Codes.{code, code_of, comes, word_code, symbol_code, classed, marked, name, number, sized, operators}
-use Rattle.safl_word.specs.Tokens.{key_text, sym_text}
 use Rattle.safl_tree.specs.Grammar
 use Rattle.safl_tree.specs.Grammar.{word, symbol, fits_width, fits_sized, fits_index}
 use Rattle.safl_tree.specs.Reader.{read_word, read_symbol, read_width, read_index, read_literal, read_sized_literal, read_another, read_exprs}

@@ -1,3 +1,4 @@
+mod Common
 pub mod Classes
 pub mod Leaves
 pub mod Expressions

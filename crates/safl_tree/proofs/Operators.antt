@@ -1,21 +1,14 @@
 -- An expression's words are read as it: what is claimed of an expression, and operators.
+use Rattle.safl_tree.proofs.Common.{Deep, Primitive, Terminal, cases_lt, goes_on, leb-true, shallow, subset_within, ◌⊎◌}
 use Rattle.std.proofs.Common.{◌≡◌, ℕ, zero, suc, ◌<◌, ◌≤◌, leb, Bool, true, false, cond, List, [], ◌∷◌, ◌++◌, refl, sym, ap, subst, ◌∙◌, inl, inr, append_assoc, arith, lt-ltb}
-use Rattle.std.specs.Prelude.{◌⊎◌}
-use Rattle.std.proofs.lemmas.Bool.{cases_lt, leb-true}
 use Rattle.safl_grammar.specs.Sets.{Every, Only, within}
-use Rattle.safl_grammar.specs.Syntax.{Deep}
 use Rattle.safl_grammar.specs.Reading.{head_of}
-use Rattle.safl_grammar.proofs.Sets.{subset_within}
-use Rattle.safl_grammar.proofs.Many.{goes_on}
 use Rattle.safl_grammar.proofs.Small.{small}
 use Rattle.safl_word.specs.declared.token.Key.TheVariants as keys
 use Rattle.safl_word.specs.declared.token.Sym.TheVariants as syms
-use Rattle.safl_word.specs.declared.primitive.Primitive.{Primitive}
 use Rattle.safl_word.specs.declared.primitive.Primitive.TheVariants as prims
 use Rattle.safl_tree.specs.Tree.{Tree, Number, Op, no_tree, a_tree, trees_of, place_of, depth}
-use Rattle.safl_tree.specs.Terminals.{Terminal}
 use Rattle.safl_tree.specs.Codes.{comes, word_code, symbol_code, operators, operator, primitive_of, primitive_in}
-use Rattle.safl_tree.specs.Grammar.{shallow}
 use Rattle.safl_tree.specs.Reader.{read_joined, read_compared, read_layer, read_chain, read_expr, expr_at}
 use Rattle.safl_tree.specs.Printable.{layers_of, operator_layers, lifted, levels, left_context, right_context, is_binary, operands}
 use Rattle.safl_tree.proofs.Leaves.{after_expr}

@@ -1,19 +1,14 @@
 -- A program that a text spells is printable.
+use Rattle.safl_tree.proofs.Common.{Definition, Parameter, SpellsProgram, Terminal, Token, at_end, is_written_width, terminals}
 use Rattle.std.proofs.Common.{◌≡◌, ℕ, ◌+◌, ◌-◌, ◌≤◌, Bool, true, false, List, [], ◌∷◌, ◌++◌, length, take, drop, Ok, refl, sym, ap, subst, ◌∙◌, arith, append_assoc, length-append}
 use Rattle.std.proofs.Math.Seq.{drop-append_seam, take-append_seam}
-use Rattle.safl_grammar.specs.Text.{at_end}
 use Rattle.safl_grammar.proofs.Parses.{bind_ok, ok_parts, value}
 use Rattle.safl_grammar.proofs.Yields.{Each, Yields, yields_nothing, yields_follows, yields_either, yields_many}
 use Rattle.safl_word.specs.declared.token.Key.TheVariants as keys
 use Rattle.safl_word.specs.declared.token.Sym.TheVariants as syms
-use Rattle.safl_word.specs.declared.token.Token.{Token}
 use Rattle.safl_word.specs.Tokens.{IsSourceName, IsToken, Piece, Blank, Comment, Lexeme, text_of, text_of_all, StandAll, tokens_from, HasTokens}
-use Rattle.safl_tree.specs.Tree.{Parameter, Definition}
-use Rattle.safl_tree.specs.Terminals.{Terminal, terminals}
 use Rattle.safl_tree.specs.Codes.{word_code, symbol_code, comes}
-use Rattle.safl_tree.specs.Grammar.{is_written_width}
 use Rattle.safl_tree.specs.Reader.{read_param, read_another_param, read_params, read_one, read_another_one, read_group, read_ended, read_another_group, read_program, read_source, expr_at, comma}
-use Rattle.safl_tree.specs.Source.{SpellsProgram}
 use Rattle.safl_tree.specs.Printable.{IsFormedParameter, AreFormedParameters, AreFormedDefinitions, AllKeepLevels, OpensGroup, IsPrintable}
 use Rattle.safl_tree.proofs.Formed.{IsTerminal, any_word, any_symbol, a_name, a_width}
 use Rattle.safl_tree.proofs.Kept.{Whole, each_end, expr_yields}

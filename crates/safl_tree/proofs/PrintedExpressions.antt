@@ -1,17 +1,14 @@
 -- Expressions are read again from their words.
+use Rattle.safl_tree.proofs.Common.{ArmList, Primitive, Reading, Terminal, is_written_width, le-leb, read_either, width_max}
 use Rattle.std.proofs.Common.{◌≡◌, ℕ, zero, suc, ◌<◌, ◌≤◌, leb, Bool, true, false, cond, List, [], ◌∷◌, ◌++◌, Option, Some, None, refl, sym, ap, subst, ◌∙◌, append_assoc, arith}
 use Rattle.safl_grammar.specs.Sets.{Set, Every, Only, within}
-use Rattle.safl_grammar.specs.Reading.{Reading, read_either}
 use Rattle.safl_grammar.proofs.Small.{Small, small, small_nothing, eats_token, small_follows, small_parses}
 use Rattle.safl_word.specs.declared.token.Key.TheVariants as keys
 use Rattle.safl_word.specs.declared.token.Sym.TheVariants as syms
-use Rattle.safl_word.specs.declared.primitive.Primitive.{Primitive}
 use Rattle.safl_word.specs.declared.primitive.Primitive.TheVariants as prims
 use Rattle.safl_tree.specs.Tree.{Tree, Number, Sized, Variable, If, Let, Cases, Op, Call, Trees, no_tree, a_tree, Binds, no_bind, a_bind, Arms}
 use Rattle.safl_tree.specs.Tree.{default_arm, an_arm, Bound, Labelled, trees_of, binds_of, arms_of, depth}
-use Rattle.safl_tree.specs.Terminals.{Terminal}
 use Rattle.safl_tree.specs.Codes.{code_of, comes, word_code, symbol_code}
-use Rattle.safl_tree.specs.Grammar.{ArmList, is_written_width}
 use Rattle.safl_tree.specs.Reader.{read_literal, read_sized_literal, read_another, read_exprs, read_no_arguments, read_arguments, read_call}
 use Rattle.safl_tree.specs.Reader.{read_named, read_cat, read_bits, read_ext, read_primary, read_inverted, read_unary, read_chain, read_choice}
 use Rattle.safl_tree.specs.Reader.{read_written, read_bind, read_another_bind, read_binds, read_binding, read_label, read_arm, read_last_arm}
@@ -32,10 +29,8 @@ use Rattle.safl_tree.proofs.Operators.{Plain, Claim, own_small, whole, part, ope
 use Rattle.safl_tree.proofs.Operators.{between_mul, between_add, between_sub, between_shl, between_shr, between_eq, between_ne, between_lt}
 use Rattle.safl_tree.proofs.Operators.{between_le, between_gt, between_ge, between_and, between_xor, between_or}
 use Rattle.std.proofs.Common.{map}
-use Rattle.safl_word.specs.Limits.{width_max}
 use Rattle.safl_tree.proofs.Expressions.{written_parses}
 use Rattle.safl_tree.specs.Codes.{marked, name}
-use Rattle.std.proofs.lemmas.Bool.{le-leb}
 
 -- an expression that stands at any place
 primary_claim : (t : Tree) → layers_of t ≡ 0 → 1 ≤ levels t → Avoids (symbol_code syms.CloseParen ∷ []) (words t) → Plain (words t) →

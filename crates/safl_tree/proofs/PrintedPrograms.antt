@@ -1,25 +1,20 @@
 -- A program is read again from its words, and its text spells it, places aside.
+use Rattle.safl_tree.proofs.Common.{Definition, Every, HasTokens, Only, Parameter, SpellsProgram, Terminal, at_end, terminals, within}
 use Rattle.std.proofs.Common.{◌≡◌, ℕ, ◌<◌, Bool, true, false, cond, List, [], ◌∷◌, ◌++◌, map, length, Ok, Err, refl, sym, ap, subst, ◌∙◌, append_assoc}
 use Rattle.std.proofs.lemmas.List.{append-nil, map-append}
-use Rattle.safl_grammar.specs.Sets.{Every, Only, within}
 use Rattle.safl_grammar.specs.Reading.{Read, Reading, ◌>>=◌, head_of, read_follows, read_many}
-use Rattle.safl_grammar.specs.Text.{at_end}
 use Rattle.safl_grammar.proofs.Many.{goes_on, stops_here, many_step}
 use Rattle.safl_grammar.proofs.Small.{Small, small, small_nothing, eats_token, small_follows, eats_parses}
 use Rattle.safl_word.specs.declared.token.Key.TheVariants as keys
 use Rattle.safl_word.specs.declared.token.Sym.TheVariants as syms
 use Rattle.safl_word.specs.Spacing.{spaced_tokens}
-use Rattle.safl_word.specs.Tokens.{HasTokens}
 use Rattle.safl_word.proofs.BlanksEndTokens.{spaced_reads}
-use Rattle.safl_tree.specs.Tree.{Parameter, Definition}
-use Rattle.safl_tree.specs.Terminals.{Terminal, terminals}
 use Rattle.safl_tree.specs.Codes.{code, code_of, comes, word_code, symbol_code, marked, name, number}
 use Rattle.safl_tree.specs.Grammar
 use Rattle.safl_tree.specs.Grammar.{fits_width}
 use Rattle.safl_tree.specs.Reader.{read_param, read_another_param, read_params, read_one, read_another_one, read_group, read_ended}
 use Rattle.safl_tree.specs.Reader.{read_another_group, read_program, read_source, expr_at, close_paren}
 use Rattle.safl_tree.specs.Printable.{IsFormedParameter, AreFormedParameters, IsFormedDefinition, AreFormedDefinitions, AllKeepLevels, OpensGroup, IsPrintable}
-use Rattle.safl_tree.specs.Source.{SpellsProgram}
 use Rattle.safl_tree.proofs.Leaves.{after_expr}
 use Rattle.safl_tree.proofs.KeptLevels.{both_levels}
 use Rattle.safl_tree.proofs.Programs.{another_one_parses, another_group_parses, spelled}

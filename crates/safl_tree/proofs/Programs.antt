@@ -1,7 +1,6 @@
 -- The reader of programs answers as the grammar says; and what follows for whole lists of tokens.
+use Rattle.safl_tree.proofs.Common.{Definition, Every, Only, Parameter, Terminal, Tree, ◌⊎◌}
 use Rattle.std.proofs.Common.{◌≡◌, ℕ, Bool, true, false, List, [], ◌∷◌, ◌++◌, Ok, Err, inl, inr, refl, sym, ◌∙◌}
-use Rattle.std.specs.Prelude.{◌⊎◌}
-use Rattle.safl_grammar.specs.Sets.{Every, Only}
 use Rattle.safl_grammar.specs.Syntax.{Rule, Syntax}
 use Rattle.safl_grammar.specs.Reading.{Read, Reading}
 use Rattle.safl_grammar.specs.Text.{Spells, Faults}
@@ -10,8 +9,6 @@ use Rattle.safl_grammar.proofs.Text
 use Rattle.safl_grammar.proofs.Rules.{then, or_else, repeated}
 use Rattle.safl_word.specs.declared.token.Key.TheVariants as keys
 use Rattle.safl_word.specs.declared.token.Sym.TheVariants as syms
-use Rattle.safl_tree.specs.Tree.{Tree, Parameter, Definition}
-use Rattle.safl_tree.specs.Terminals.{Terminal}
 use Rattle.safl_tree.specs.Codes.{code, word_code, symbol_code}
 use Rattle.safl_tree.specs.Grammar
 use Rattle.safl_tree.specs.Grammar.{source}

@@ -1,22 +1,18 @@
 -- Tokens of given words are read as a value that shows a given one.
+use Rattle.safl_tree.proofs.Common.{Key, Sym, apart_within, goes_on, stops_here, subset_within, width_max}
 use Rattle.std.proofs.Common.{◌≡◌, ℕ, ◌<◌, Bool, true, false, cond, List, [], ◌∷◌, ◌++◌, map, length, Option, Some, None, Ok, Err, refl, sym, ap, subst, ◌∙◌, append_assoc, lt-ltb}
 use Rattle.safl_grammar.specs.Sets.{Set, Every, Only, within, subset, apart}
 use Rattle.safl_grammar.specs.Syntax.{Rule, Range}
 use Rattle.safl_grammar.specs.Reading.{Read, Reading, ◌>>=◌, head_of, taken, checked, read_nothing, read_token, read_limited, read_follows, read_either, read_many}
-use Rattle.safl_grammar.proofs.Sets.{subset_within, apart_within}
-use Rattle.safl_grammar.proofs.Many.{goes_on, stops_here}
 use Rattle.safl_grammar.proofs.Small.{Small, small_nothing, eats_token, small_follows, eats_follows}
 use Rattle.safl_tree.specs.Terminals.{Terminal, NameAt, NumberAt}
 use Rattle.safl_tree.specs.Codes.{code, code_of, comes, word_code, symbol_code, classed, marked, name, number, number_in, sized, width_in, value_in}
 use Rattle.std.proofs.lemmas.List.{append-nil, map-append}
 use Rattle.std.specs.Prelude.{nat_lt}
-use Rattle.safl_word.specs.declared.token.Sym.{Sym}
 use Rattle.safl_word.specs.declared.token.Sym.TheVariants as syms
 use Rattle.safl_tree.specs.Reader.{read_word, read_symbol, read_width, read_index, comma}
 use Rattle.safl_tree.specs.Tree.{Sized}
 use Rattle.safl_tree.specs.Grammar.{is_written_width, fits_width, fits_sized, fits_index}
-use Rattle.safl_word.specs.Limits.{width_max}
-use Rattle.safl_word.specs.declared.token.Key.{Key}
 use Rattle.safl_word.specs.declared.token.Key.TheVariants as keys
 use Rattle.safl_tree.specs.Printed
 use Rattle.safl_tree.specs.Printed.{PrintedToken, separated}

@@ -1,10 +1,7 @@
 -- The plain tree of an expression, by its lists.
+use Rattle.safl_tree.proofs.Common.{Arm, Bind, Expr, Primitive}
 use Rattle.std.proofs.Common.{◌≡◌, ℕ, List, Vec, Box, Global, refl, ap, ◌∙◌}
 use mathlib.Core.Former.{Count}
-use Rattle.safl_word.specs.declared.primitive.Primitive.{Primitive}
-use Rattle.safl_tree.specs.declared.tree.Expr.{Expr}
-use Rattle.safl_tree.specs.declared.tree.Bind.{Bind}
-use Rattle.safl_tree.specs.declared.tree.Arm.{Arm}
 use Rattle.safl_tree.specs.declared.tree.Node.{Node, Row_of-Expr, end_of-Expr, more_of-Expr, items-the_row-Expr, items_hidden-the_row-Expr-2}
 use Rattle.safl_tree.specs.declared.tree.Node.{Row_of-Bind, end_of-Bind, more_of-Bind, items-the_row-Bind, items_hidden-the_row-Bind-0, Row_of-Arm}
 use Rattle.safl_tree.specs.declared.tree.Node.{end_of-Arm, more_of-Arm, items-the_row-Arm, items_hidden-the_row-Arm-1}

@@ -1,11 +1,7 @@
 -- From lists of tokens to the tokens of a text.
+use Rattle.safl_tree.proofs.Common.{Definition, Fault, Terminal, Token, terminals, ◌⊎◌}
 use Rattle.std.proofs.Common.{◌≡◌, ℕ, List, inl, inr, refl, sym, ap, ◌∙◌}
-use Rattle.std.specs.Prelude.{◌⊎◌}
 use Rattle.safl_grammar.specs.Syntax.{Rule}
-use Rattle.safl_word.specs.declared.token.Token.{Token}
-use Rattle.safl_word.specs.declared.fault.Fault.{Fault}
-use Rattle.safl_tree.specs.Tree.{Definition}
-use Rattle.safl_tree.specs.Terminals.{Terminal, terminals}
 use Rattle.safl_tree.specs.Source.{TokensSpell, TokensFault, rule_of, place_in, fault_at}
 use Rattle.safl_tree.proofs.Programs
 

@@ -1,14 +1,10 @@
 -- From the tokens of a text to the text itself.
+use Rattle.safl_tree.proofs.Common.{Definition, Fault, HasTokens, Token, ◌⊎◌}
 use Rattle.std.proofs.Common.{◌≡◌, ℕ, List, inl, inr, refl, sym, ap, subst, ◌∙◌}
-use Rattle.std.specs.Prelude.{◌⊎◌}
-use Rattle.safl_word.specs.declared.token.Token.{Token}
 use Rattle.safl_word.specs.declared.fault.Rule.{Rule}
-use Rattle.safl_word.specs.declared.fault.Fault.{Fault}
-use Rattle.safl_word.specs.Tokens.{HasTokens}
 use Rattle.safl_word.proofs.Cuts.{fault_of_break}
 use Rattle.safl_word.proofs.TokensOnce
 use Rattle.safl_word.proofs.TokensOnce.{Outcome, tokens_of, fault_of, outcome, tokens_once, fault_once}
-use Rattle.safl_tree.specs.Tree.{Definition}
 use Rattle.safl_tree.specs.Source.{TokensSpell, TokensFault, SpellsProgram, SyntaxFault, lexical, of_tokens, fault_at}
 use Rattle.safl_tree.proofs.Sources
 

@@ -1,10 +1,9 @@
 -- What is written one after the other.
+use Rattle.safl_tree.proofs.Common.{Labelled, Tree, arms_of, drop_read}
 use Rattle.std.proofs.Common.{◌≡◌, ℕ, ◌+◌, ◌-◌, ◌<◌, ◌≤◌, List, [], ◌∷◌, ◌++◌, length, take, drop, get_or, refl, sym, ap, subst, ◌∙◌, append_assoc, Result, Ok, Err, OnOk, arith}
 use Rattle.std.proofs.lemmas.List.{append-nil, drop_all, take_all}
 use Rattle.safl_word.specs.declared.token.Key.TheVariants as keys
 use Rattle.safl_word.specs.declared.token.Sym.TheVariants as syms
-use Rattle.safl_word.proofs.Lists.{drop_read}
-use Rattle.safl_tree.specs.Tree.{Tree, Labelled, arms_of}
 use Rattle.safl_tree.specs.Printed
 use Rattle.safl_tree.specs.Printed.{PrintedToken, spaced, separated, words, arm_words, labelled_words, Writes}
 

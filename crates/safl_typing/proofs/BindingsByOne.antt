@@ -1,14 +1,7 @@
 -- Names of bindings, one by one.
+use Rattle.safl_typing.proofs.Common.{Bound, bytes_eq, drop_read, fault, list_any, placed, repeated, shown_bindings, slice_get_read}
 use Rattle.std.proofs.Common.{◌≡◌, ℕ, suc, ◌+◌, ◌<◌, arith, drop, get_or, List, ◌∷◌, length, Option, Some, Bool, false, cond, refl, sym, ap, ◌∙◌}
-use Rattle.std.specs.List.{list_any}
-use Rattle.std.specs.Str.{bytes_eq}
-use Rattle.std.proofs.lemmas.Option.{slice_get_read}
 use Rattle.safl_word.specs.declared.fault.Rule.TheVariants as rules
-use Rattle.safl_word.proofs.Lists.{drop_read}
-use Rattle.safl_typing.specs.declared.expression.Bound.{Bound}
-use Rattle.safl_typing.specs.Walk.{repeated, fault}
-use Rattle.safl_typing.specs.Rewriting.{placed}
-use Rattle.safl_typing.specs.Plain.{shown_bindings}
 use Rattle.safl_typing.specs.PlainNames.{name_of, earlier}
 
 earlier_next : (bs : List Bound) (i : ℕ) (b : Bound) → i < length bs → b ≡ get_or bs i b → earlier bs (i + 1) ≡ b.name ∷ earlier bs i

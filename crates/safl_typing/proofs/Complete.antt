@@ -1,9 +1,8 @@
 -- What has a width and a term is given them by the walk.
+use Rattle.safl_typing.proofs.Common.{Fault, Primitive}
 use Rattle.std.proofs.Common.{◌≡◌, ℕ, suc, ◌+◌, ◌<◌, ◌^◌, List, [], ◌∷◌, ◌++◌, length, Option, Some, None, Bool, true, false, refl, sym, ap, ◌∙◌, subst, inl, inr, ◌⊎◌, arith}
 use Rattle.std.specs.Prelude.{Result, Ok, ◌&&◌, cond}
 use Rattle.std.proofs.lemmas.Bool.{eq-eqb, lt-ltb}
-use Rattle.safl_word.specs.declared.fault.Fault.{Fault}
-use Rattle.safl_word.specs.declared.primitive.Primitive.{Primitive}
 use Rattle.safl_term.specs.Terms as terms
 use Rattle.safl_term.specs.Terms.{Term, Const, Var, Loop, Terms, Cons}
 use Rattle.safl_typing.specs.Rewriting.{Expression, Number, Sized, Variable, If, Let, Op, Call, Expressions, no_expression, an_expression, Bindings}

@@ -1,11 +1,8 @@
 -- What follows from the walk's giving exactly the form: one form, a fault or a form, and units of single functions.
+use Rattle.safl_typing.proofs.Common.{Definition, Fault, result_err, same_Some}
 use Rattle.std.proofs.Common.{◌≡◌, ℕ, zero, suc, ◌+◌, List, [], ◌∷◌, Some, None, refl, sym, ap, ◌∙◌, arith}
 use Rattle.std.specs.Prelude.{Result, Ok, Err, slice_get}
-use Rattle.std.specs.Result.{result_err}
-use Rattle.std.proofs.lemmas.Option.{same_Some}
 use Rattle.std.proofs.lemmas.Bool.{cond-false}
-use Rattle.safl_word.specs.declared.fault.Fault.{Fault}
-use Rattle.safl_tree.specs.Tree.{Definition}
 use Rattle.safl_tree.specs.Printable.{IsFormedProgram}
 use Rattle.safl_typing.specs.Heads.{Head, unit_of}
 use Rattle.safl_typing.specs.Forms.{FunctionForm, Form, AreFunctionsOf, IsFormOf}

@@ -1,11 +1,10 @@
 -- The widths of a program that has the form are in range.
+use Rattle.safl_typing.proofs.Common.{Arms, Binds, Definition, Parameter, Tree, Trees, same_Some}
 use Rattle.std.proofs.Common.{◌≡◌, ℕ, suc, List, [], ◌∷◌, map, Option, Some, None, Bool, true, false, cond, refl, subst}
 use Rattle.std.specs.Prelude.{nat_le}
 use Rattle.std.proofs.lemmas.Bool.{leb-true}
-use Rattle.std.proofs.lemmas.Option.{same_Some}
 use Rattle.safl_word.specs.Limits.{width_max}
 use Rattle.safl_tree.specs.Tree as source
-use Rattle.safl_tree.specs.Tree.{Tree, Trees, Binds, Arms, Parameter, Definition}
 use Rattle.safl_tree.specs.Grammar.{is_written_width}
 use Rattle.safl_tree.specs.Printable.{IsLabel, FitsWritten, IsFormed, AreFormed, AreFormedBinds, AreFormedArms, AreFormedParameters, AreFormedDefinitions}
 use Rattle.safl_typing.specs.Rewriting.{rewritten, rewritten_all, rewritten_binds, rewritten_arms}

@@ -1,10 +1,8 @@
 -- The innermost variable of a name, where a let adds to those around it.
+use Rattle.safl_typing.proofs.Common.{Slot, bytes_eq, shifted}
 use Rattle.std.proofs.Common.{◌≡◌, ℕ, suc, ◌+◌, arith, List, [], ◌∷◌, ◌++◌, length, Option, Some, None, Bool, true, false, cond, refl, sym, ap, ◌∙◌}
-use Rattle.std.specs.Str.{bytes_eq}
-use Rattle.safl_typing.specs.Heads.{Slot}
 use Rattle.std.specs.Option.{option_or as later}
 use Rattle.safl_typing.specs.Typing.{At, innermost}
-use Rattle.safl_typing.specs.PlainScope.{shifted}
 use Rattle.safl_typing.proofs.SlotsTyped.{later_again, later_none}
 
 abbrev here : Bool → ℕ → ℕ → Option At

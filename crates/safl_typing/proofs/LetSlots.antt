@@ -1,15 +1,11 @@
 -- A let's own slots are as many as its bound terms.
+use Rattle.safl_typing.proofs.Common.{Bindings, Known, Slot, a_binding, length-append, no_binding, shown_terms, sites, slots}
 use Rattle.std.proofs.Common.{◌≡◌, ℕ, suc, ◌+◌, ◌++◌, List, [], length, false, refl, ap, subst, ◌∙◌, arith}
 use Rattle.std.specs.Prelude.{Ok}
-use Rattle.std.proofs.lemmas.List.{length-append}
 use Rattle.safl_term.specs.declared.term.Term.{Term}
 use Rattle.safl_term.specs.Slots.{count}
 use Rattle.safl_term.specs.Terms.{Nil}
-use Rattle.safl_term.specs.Tree.{shown_terms}
 use Rattle.safl_term.proofs.SlotsOfLets.{count_forest}
-use Rattle.safl_typing.specs.Rewriting.{Bindings, no_binding, a_binding}
-use Rattle.safl_typing.specs.Heads.{Known, Slot, sites}
-use Rattle.safl_typing.specs.Typing.{slots}
 use Rattle.safl_typing.specs.Walk.{TypedAll, after, wanted_by, check, check_bound}
 use Rattle.safl_typing.proofs.Sound.{after_ok, ok_is}
 use Rattle.safl_typing.proofs.WalkByForms.{joined}

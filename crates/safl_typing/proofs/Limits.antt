@@ -1,13 +1,11 @@
 -- The limits of a body: where they are kept, the walk finds none passed, and the other way round.
+use Rattle.safl_typing.proofs.Common.{Fault, names, or_else}
 use Rattle.std.proofs.Common.{◌≡◌, ℕ, suc, ◌≤◌, List, length, map, Option, Some, None, refl, sym, ap, ◌∙◌, subst, ⊎_elim}
 use Rattle.std.proofs.lemmas.Option.{slice_get_past, slice_get_cases}
-use Rattle.safl_word.specs.declared.fault.Fault.{Fault}
 use Rattle.safl_typing.specs.Rewriting.{Expression, Number, Sized, Variable, If, Let, Op, Call, Expressions, no_expression, an_expression, Bindings, no_binding, a_binding}
 use Rattle.safl_typing.specs.Rewriting.{excess, long_let, long_let_in, long_let_bound, placed}
-use Rattle.safl_typing.specs.Typing.{names}
 use Rattle.safl_word.specs.Limits.{bindings_max}
 use Rattle.safl_typing.specs.Forms.{HasShortLets, HaveShortLets, HaveShortBound}
-use Rattle.safl_term.specs.Readiness.{or_else}
 use Rattle.std.specs.Option.{option_or as or_place}
 use Rattle.safl_typing.specs.Walk.{limit}
 use Rattle.safl_typing.proofs.Names.{some_none}

@@ -1,13 +1,9 @@
 -- Lists of expressions, one by one.
+use Rattle.safl_typing.proofs.Common.{Bound, Known, all_flexible, drop_read, flexible, sites, sites_bound, sites_in, take_all}
 use Rattle.std.proofs.Common.{◌≡◌, ℕ, zero, suc, ◌+◌, ◌<◌, ◌≤◌, arith, drop, get_or, List, [], ◌∷◌, ◌++◌, length, take, Bool, true, false, refl, sym, ap, ◌∙◌}
-use Rattle.std.proofs.lemmas.List.{take_all}
 use Rattle.std.specs.Prelude.{◌&&◌, min}
-use Rattle.safl_word.proofs.Lists.{drop_read}
 use Rattle.safl_typing.specs.declared.expression.Expression as code
 use Rattle.safl_typing.specs.declared.heads.Slot as code_slot
-use Rattle.safl_typing.specs.Rewriting.{flexible, all_flexible}
-use Rattle.safl_typing.specs.Heads.{Known, sites, sites_in, sites_bound}
-use Rattle.safl_typing.specs.declared.expression.Bound.{Bound}
 use Rattle.safl_typing.specs.Plain.{shown_expression, shown_expressions, shown_bindings}
 
 -- where an element is flexible, the rest decides; where it is not, all are not flexible

@@ -1,17 +1,12 @@
 -- Marks of several expressions, and of an expression whose parts stand in a list.
+use Rattle.safl_typing.proofs.Common.{Bound, Count, Known, Marks, Primitive, shown_bindings, shown_expression, shown_expressions}
 use Rattle.std.proofs.Common.{◌≡◌, ℕ, zero, suc, ◌<◌, arith, get_or, List, [], ◌∷◌, ◌++◌, length, Vec, Box, Global, sym, subst}
-use mathlib.Core.Former.{Count}
-use Rattle.safl_word.specs.declared.primitive.Primitive.{Primitive}
-use Rattle.safl_typing.specs.declared.expression.Bound.{Bound}
-use Rattle.safl_typing.specs.declared.expression.Marks.{Marks}
 use Rattle.safl_typing.specs.declared.expression.Expression as code
 use Rattle.safl_typing.specs.declared.expression.Expression.{Row_of-Expression, end_of-Expression, more_of-Expression, items-the_row-Expression}
 use Rattle.safl_typing.specs.declared.expression.Expression.{items_hidden-the_row-Expression-1, Row_of-Bound, end_of-Bound, more_of-Bound}
 use Rattle.safl_typing.specs.declared.expression.Expression.{items-the_row-Bound, items_hidden-the_row-Bound-0}
 use Rattle.safl_typing.specs.declared.expression.Expression.TheVariants as codes
 use Rattle.safl_typing.specs.Rewriting.{Expression, Let, Op, Call}
-use Rattle.safl_typing.specs.Heads.{Known}
-use Rattle.safl_typing.specs.Plain.{shown_expression, shown_expressions, shown_bindings}
 use Rattle.safl_typing.specs.Marks.{IsMarkOf, IsMarked, RowMarked, RowBound, AreMarked, BoundMarked}
 use Rattle.safl_typing.proofs.PlainLists.{row_of, bound_of, shown_expression-Op, shown_expression-Call, shown_expression-Let}
 

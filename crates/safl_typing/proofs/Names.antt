@@ -1,17 +1,13 @@
 -- A list of names repeats none exactly where they differ.
+use Rattle.safl_typing.proofs.Common.{Differ, bytes_eq, bytes_eq-Decides, fault, list_any, names, repeated}
 use Rattle.std.proofs.Common.{◌≡◌, ℕ, zero, suc, List, [], ◌∷◌, map, Some, None, Bool, true, false, refl, sym, ap, ◌∙◌, subst}
 use Rattle.std.specs.Prelude.{slice_get, cond, ◌||◌}
-use Rattle.std.specs.List.{list_any}
-use Rattle.std.specs.Str.{bytes_eq}
 use Rattle.std.proofs.lemmas.Bool.{false_from_ne_true}
-use Rattle.std.proofs.lemmas.Slice.Eq.{bytes_eq-Decides}
 use Rattle.std.proofs.lemmas.Map.Keys.{any_passes_from_place}
 use Rattle.std.proofs.Math.Nat.{suc_inj}
 use Rattle.safl_word.specs.declared.fault.Rule.TheVariants as rules
 use Rattle.safl_word.proofs.Naturals.{zero_suc}
 use Rattle.safl_typing.specs.Rewriting.{Bindings, no_binding, a_binding, Placed, placed}
-use Rattle.safl_typing.specs.Typing.{Differ, names}
-use Rattle.safl_typing.specs.Walk.{repeated, fault}
 
 pub some_none : {A : Type 0} {B : Type 0} (x : B) → Some x ≡ None → A
 some_none x e = absurd cc

@@ -1,17 +1,11 @@
 -- What holds of each function of a program that has a form.
+use Rattle.safl_typing.proofs.Common.{Definition, Function, Program, Site, length-append, same_Some, shown_term}
 use Rattle.std.proofs.Common.{◌≡◌, ℕ, zero, suc, ◌+◌, ◌<◌, ◌≤◌, List, [], ◌∷◌, ◌++◌, length, map, Some, Bool, true, false, cond, refl, sym, ap, ◌∙◌, subst, inl, inr, ◌⊎◌, arith}
 use Rattle.std.specs.Prelude.{slice_get, sum_by}
 use Rattle.std.specs.Option.{option_map_or}
 use Rattle.std.proofs.lemmas.List.Sums.{sum_by-cons}
-use Rattle.std.proofs.lemmas.Option.{same_Some}
-use Rattle.std.proofs.lemmas.List.{length-append}
-use Rattle.safl_term.specs.declared.checked.Function.{Function}
-use Rattle.safl_term.specs.declared.checked.Site.{Site}
-use Rattle.safl_term.specs.Program.{Program}
 use Rattle.safl_term.specs.Sizes as sizes
 use Rattle.safl_term.specs.Terms.{Term, Terms}
-use Rattle.safl_term.specs.Tree.{shown_term}
-use Rattle.safl_tree.specs.Tree.{Definition}
 use Rattle.safl_typing.specs.Rewriting.{Expression, rewritten, Number, Sized, Variable, If, Let, Op, Call, Expressions, no_expression, an_expression, Bindings, no_binding, a_binding}
 use Rattle.safl_typing.specs.Heads.{Slot, Head, Known, Callee, Member, Above, Unknown, callee, unit_of, params_of, head_of, heads_from}
 use Rattle.safl_typing.specs.Typing.{slots, Calls, Has, HaveAll, HaveBound}

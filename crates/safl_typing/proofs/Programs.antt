@@ -1,4 +1,5 @@
 -- The program of a form is well formed, within limits, and in the order of the text.
+use Rattle.safl_typing.proofs.Common.{Function, Site, shown_term, widths_of}
 use Rattle.std.proofs.Common.{◌≡◌, ℕ, zero, suc, ◌+◌, ◌-◌, ◌<◌, ◌≤◌, List, [], ◌∷◌, length, map, Option, Some, None, Bool, true, false, cond, refl, sym, ap, ◌∙◌, subst, inl, inr, ◌⊎◌, ⊎_elim, arith}
 use Rattle.std.specs.Prelude.{slice_get, codes}
 use Rattle.std.specs.Option.{option_map}
@@ -7,12 +8,9 @@ use Rattle.std.proofs.lemmas.Option.{slice_get_cases, slice_get_within, slice_ge
 use Rattle.safl_word.specs.Words.{no_word}
 use Rattle.safl_word.specs.Limits.{width_max, depth_max}
 use Rattle.safl_word.specs.Tokens.{IsSourceName}
-use Rattle.safl_term.specs.declared.checked.Function.{Function}
 use Rattle.safl_term.specs.declared.checked.Parameter as code
-use Rattle.safl_term.specs.declared.checked.Site.{Site}
 use Rattle.safl_term.specs.Program.{arity}
 use Rattle.safl_term.specs.Terms as plain
-use Rattle.safl_term.specs.Tree.{shown_term}
 use Rattle.safl_term.specs.WellFormed.{Spans, HasWidth, IsNumbered, IsWellFormed}
 use Rattle.safl_term.specs.Checked.{CheckedProgram, IsWithinLimits, AreNamed, HasWordWidths, IsChecked, checked_of}
 use Rattle.safl_term.specs.Tables as tables
@@ -24,7 +22,6 @@ use Rattle.safl_tree.specs.Printable.{AreFormedParameters, IsFormedDefinition, A
 use Rattle.safl_tree.proofs.Formed.{formed_at}
 use Rattle.safl_typing.specs.Rewriting.{rewritten}
 use Rattle.safl_typing.specs.Heads.{Slot, Head, params_of, head_of, heads}
-use Rattle.safl_typing.specs.Typing.{widths_of}
 use Rattle.safl_typing.specs.Forms.{shown_param, shown_function, form_of, shown_form, sites_of, all_sites, param_names, IsLast, function_names, AreShallow, IsFormOf}
 use Rattle.safl_typing.specs.Ranges.{IsWide}
 use Rattle.safl_typing.proofs.Formed.{width_wide, heads_wide, params_wide}

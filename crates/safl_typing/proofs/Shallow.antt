@@ -1,15 +1,14 @@
 -- A body's term is no deeper than the expression that it stands for, and its lets have as many bindings.
+use Rattle.safl_typing.proofs.Common.{Arms, Binds, Calls, Has, HaveAll, HaveBound, Tree, Trees, names}
 use Rattle.std.proofs.Common.{◌≡◌, ℕ, suc, ◌+◌, ◌≤◌, max, List, [], ◌∷◌, length, Bool, refl, sym, ap, ◌∙◌, subst, arith}
 use Rattle.safl_term.specs.Slots as slots
 use Rattle.safl_term.specs.Sizes as sizes
 use Rattle.safl_term.specs.Terms.{Term, Terms}
 use Rattle.safl_tree.specs.Tree as source
-use Rattle.safl_tree.specs.Tree.{Tree, Trees, Binds, Arms}
 use Rattle.safl_tree.specs.Printable.{IsLabel, HasBinding, IsFormed, AreFormed, AreFormedBinds, AreFormedArms}
 use Rattle.safl_typing.specs.Rewriting.{Expression, Number, Sized, Variable, If, Let, Op, Call, Expressions, no_expression, an_expression, Bindings}
 use Rattle.safl_typing.specs.Rewriting.{no_binding, a_binding, rewritten, rewritten_all, rewritten_binds, rewritten_arms}
 use Rattle.safl_typing.specs.Heads.{Slot, Known, Callee, Member, Above, Unknown, callee}
-use Rattle.safl_typing.specs.Typing.{names, Calls, Has, HaveAll, HaveBound}
 use Rattle.safl_typing.specs.Forms.{HasShortLets, HaveShortLets, HaveShortBound}
 
 -- ---- expressions

@@ -1,16 +1,11 @@
 -- Slots below a let, terms with their widths, and faults that stop the walk.
+use Rattle.safl_typing.proofs.Common.{Bound, CheckErr, Fault, Slot, shown_bindings, slots}
 use Rattle.std.proofs.Common.{◌≡◌, ℕ, List, [], ◌∷◌, ◌++◌, append_assoc, refl, sym, ap, ◌∙◌}
 use Rattle.std.specs.Prelude.{Result, Ok}
-use Rattle.safl_word.specs.declared.fault.Fault.{Fault}
 use Rattle.safl_term.specs.Terms.{Term}
-use Rattle.safl_typing.specs.declared.expression.Bound.{Bound}
 use Rattle.safl_typing.specs.declared.heads.Slot as code
-use Rattle.safl_typing.specs.declared.typed.CheckErr.{CheckErr}
 use Rattle.safl_typing.specs.declared.typed.CheckErr.TheVariants as errors
-use Rattle.safl_typing.specs.Heads.{Slot}
-use Rattle.safl_typing.specs.Typing.{slots}
 use Rattle.safl_typing.specs.Walk.{Typed, after}
-use Rattle.safl_typing.specs.Plain.{shown_bindings}
 use Rattle.safl_typing.specs.PlainHeads.{shown_slot, shown_slots}
 use Rattle.safl_typing.specs.PlainTyped.{RefusesFault}
 

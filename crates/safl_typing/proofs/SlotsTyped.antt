@@ -1,18 +1,14 @@
 -- Words that do not fit, and slots by their names.
+use Rattle.safl_typing.proofs.Common.{CheckErr, IsWord, Slot, bytes_eq, slice_get_read}
 use Rattle.std.proofs.Common.{◌≡◌, ℕ, zero, suc, ◌+◌, ◌<◌, ◌^◌, arith, take, get_or, List, [], ◌∷◌, ◌++◌, length, Option, Some, None, Bool, true, false, cond, refl, sym, ap, ◌∙◌, subst}
 use Rattle.std.specs.Prelude.{nat_lt, IfSome, Err}
-use Rattle.std.proofs.lemmas.Option.{slice_get_read}
 use Rattle.safl_word.specs.declared.fault.Rule.TheVariants as rules
-use Rattle.safl_typing.specs.declared.typed.CheckErr.{CheckErr}
 use Rattle.safl_typing.specs.declared.typed.CheckErr.TheVariants as errors
 use Rattle.safl_typing.specs.declared.typed.Wanted as code_wanted
 use Rattle.safl_typing.specs.declared.typed.Wanted.TheVariants as wants
 use Rattle.safl_typing.specs.Walk.{fault, check_number, sized}
-use Rattle.std.specs.Str.{bytes_eq}
 use Rattle.std.proofs.lemmas.Bool.{ltb-true, false_from_ne_true}
-use Rattle.safl_word.specs.Words.{IsWord}
 use Rattle.safl_typing.specs.declared.heads.Slot as code
-use Rattle.safl_typing.specs.Heads.{Slot}
 use Rattle.std.specs.Option.{option_or as later}
 use Rattle.safl_typing.specs.Typing.{At, innermost, word}
 use Rattle.safl_typing.specs.PlainHeads.{shown_slot, shown_slots}

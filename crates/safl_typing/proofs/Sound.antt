@@ -1,12 +1,9 @@
 -- What the walk gives a width and a term has them.
+use Rattle.safl_typing.proofs.Common.{Fault, IsWord, Primitive, result_width}
 use Rattle.std.proofs.Common.{◌≡◌, ℕ, suc, ◌+◌, ◌<◌, ◌^◌, List, [], ◌∷◌, ◌++◌, length, Option, Some, None, Bool, true, false, cond, refl, sym, ◌∙◌, subst, inl, inr, ◌⊎◌, arith}
 use Rattle.std.specs.Prelude.{Result, Ok, Err, ◌==◌, nat_lt, ◌&&◌}
 use Rattle.std.proofs.lemmas.Bool.{eqb-true, ltb-true}
-use Rattle.safl_word.specs.declared.fault.Fault.{Fault}
 use Rattle.safl_word.specs.declared.fault.Rule.TheVariants as rules
-use Rattle.safl_word.specs.declared.primitive.Primitive.{Primitive}
-use Rattle.safl_word.specs.Primitives.{result_width}
-use Rattle.safl_word.specs.Words.{IsWord}
 use Rattle.safl_term.specs.Terms as terms
 use Rattle.safl_term.specs.Terms.{Term, Const, Var, Loop, Terms, Nil, Cons}
 use Rattle.safl_typing.specs.Rewriting.{Expression, Number, Sized, Variable, If, Let, Op, Call, Expressions, no_expression, an_expression, Bindings}

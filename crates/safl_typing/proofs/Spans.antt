@@ -1,15 +1,13 @@
 -- The sites of a term are those of its expression's interval, in order, and as many nodes stand in both.
+use Rattle.safl_typing.proofs.Common.{Calls, Has, HaveAll, HaveBound, Program, Site, slots}
 use Rattle.std.proofs.Common.{◌≡◌, ℕ, suc, ◌+◌, List, [], ◌∷◌, ◌++◌, length, Bool, refl, sym, ap, ◌∙◌, subst, arith}
 use Rattle.std.proofs.lemmas.List.{length-append as append_length}
-use Rattle.safl_term.specs.declared.checked.Site.{Site}
 use Rattle.safl_term.specs.Terms.{Term, Terms}
-use Rattle.safl_term.specs.Program.{Program}
 use Rattle.safl_term.specs.Sizes as sizes
 use Rattle.safl_term.specs.WellFormed.{Spans, SpansAll}
 use Rattle.safl_typing.specs.Rewriting.{Expression, Number, Sized, Variable, If, Let, Op, Call, Expressions, no_expression, an_expression, Bindings}
 use Rattle.safl_typing.specs.Rewriting.{no_binding, a_binding, nodes, nodes_in, nodes_bound}
 use Rattle.safl_typing.specs.Heads.{Slot, Known, Callee, Member, Above, Unknown, callee}
-use Rattle.safl_typing.specs.Typing.{slots, Calls, Has, HaveAll, HaveBound}
 use Rattle.safl_typing.specs.Forms.{sites_of, sites_of_all}
 use Rattle.safl_typing.proofs.Widths.{Agrees, CalleeAt, callee_at}
 

@@ -1,22 +1,16 @@
 -- What is asked of the parts of an expression, and the walk over each form, step by step.
+use Rattle.safl_typing.proofs.Common.{AllByRecursion, Bound, CheckErr, Fault, Primitive, length-append, result_width, shown_bindings}
+use Rattle.safl_typing.proofs.Common.{shown_expression, shown_expressions, slice_get_read, slots, widths_of}
 use Rattle.std.proofs.Common.{◌≡◌, ℕ, zero, suc, ◌+◌, ◌*◌, ◌<◌, ◌≤◌, ◌^◌, arith, get_or, List, [], ◌∷◌, ◌++◌, length, Option, Some, None, Bool, true, false, refl, sym, ap, ◌∙◌, subst}
 use Rattle.std.specs.Prelude.{min, map, ◌&&◌, ◌==◌, Result, Ok, Err, slice_get}
-use Rattle.std.specs.List.{AllByRecursion}
-use Rattle.std.proofs.lemmas.Option.{slice_get_read}
-use Rattle.std.proofs.lemmas.List.{length-append}
 use Rattle.safl_word.specs.declared.fault.Rule.TheVariants as rules
-use Rattle.safl_word.specs.declared.fault.Fault.{Fault}
-use Rattle.safl_word.specs.declared.primitive.Primitive.{Primitive}
-use Rattle.safl_word.specs.Primitives.{result_width}
 use Rattle.safl_term.specs.Terms as terms
 use Rattle.safl_term.specs.Terms.{Term, Terms, Loop, Nil, Cons}
-use Rattle.safl_typing.specs.declared.expression.Bound.{Bound}
 use Rattle.safl_typing.specs.declared.expression.Expression as code
 use Rattle.safl_typing.specs.declared.heads.Slot as code_slot
 use Rattle.safl_typing.specs.declared.heads.Head as code_head
 use Rattle.safl_typing.specs.declared.heads.Callee as code_callee
 use Rattle.safl_typing.specs.declared.heads.Callee.TheVariants as callees
-use Rattle.safl_typing.specs.declared.typed.CheckErr.{CheckErr}
 use Rattle.safl_typing.specs.declared.typed.CheckErr.TheVariants as errors
 use Rattle.safl_typing.specs.declared.typed.Wanted as code_wanted
 use Rattle.safl_typing.specs.declared.typed.Wanted.TheVariants as wants
@@ -24,12 +18,10 @@ use Rattle.safl_typing.specs.Rewriting.{Expression, Number, Sized, Variable, If,
 use Rattle.safl_typing.specs.Rewriting.{no_binding, a_binding, Shape, Alike, Comparing, Shifting, Resizing, shape, flexible, count, nodes, nodes_in}
 use Rattle.safl_typing.specs.Rewriting.{nodes_bound, placed}
 use Rattle.safl_typing.specs.Heads.{Slot, Head, Known, Callee, Member, Above, Unknown, callee, sites, sites_in, sites_bound}
-use Rattle.safl_typing.specs.Typing.{slots, widths_of}
 use Rattle.safl_typing.specs.Ranges.{IsWide, WideSlots, WideHeads}
 use Rattle.safl_typing.specs.Walk.{fault, fault_with, after, unless, needs, Typed, TypedAll, TypedAlike, Wanted, Any, Exactly, is_any, is_known}
 use Rattle.safl_typing.specs.Walk.{wanted_by, settle, branches, alike, resized, operated, arguments, called, repeated, all_any, amounts}
 use Rattle.safl_typing.specs.Walk.{exactly, check, check_all, check_alike, check_shift, check_bound}
-use Rattle.safl_typing.specs.Plain.{shown_expression, shown_expressions, shown_bindings}
 use Rattle.safl_typing.specs.PlainHeads.{shown_slots, shown_head, shown_heads, known, with_number, a_member, an_earlier, shown_callee, IsOneOf}
 use Rattle.safl_typing.specs.PlainTyped.{shown_wanted, HasWidthOfWord, HasWideWanted, RefusesFault, operand_wanted, operands_wanted}
 use Rattle.safl_typing.specs.MayWalk.{CountParams, MayWalk, MayCheck, MayCheckAll, MayBind}

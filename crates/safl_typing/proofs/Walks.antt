@@ -1,22 +1,16 @@
 -- The walk over a program gives exactly the form that the program has.
+use Rattle.safl_typing.proofs.Common.{Definition, Differ, Fault, Has, Parameter, bytes_eq, bytes_eq-Decides, list_any, or_else}
 use Rattle.std.proofs.Common.{◌≡◌, ℕ, suc, ◌+◌, ◌≤◌, List, [], ◌∷◌, length, map, Some, None, Bool, true, false, cond, refl, sym, ap, ◌∙◌, subst, arith}
 use Rattle.std.specs.Prelude.{Ok, ◌==◌, nat_le, codes}
-use Rattle.std.specs.List.{list_any}
-use Rattle.std.specs.Str.{bytes_eq}
 use Rattle.std.proofs.lemmas.Bool.{eq-eqb, eqb-true, le-leb, leb-true}
-use Rattle.std.proofs.lemmas.Slice.Eq.{bytes_eq-Decides}
-use Rattle.safl_word.specs.declared.fault.Fault.{Fault}
 use Rattle.safl_word.specs.declared.fault.Rule.TheVariants as rules
 use Rattle.safl_term.specs.Terms.{Term}
-use Rattle.safl_tree.specs.Tree.{Definition, Parameter}
 use Rattle.safl_tree.specs.Printable.{OpensGroup, AreFormedDefinitions, IsFormedProgram}
 use Rattle.safl_typing.specs.Rewriting.{Expression, rewritten, nodes, excess, long_let}
 use Rattle.safl_typing.specs.Heads.{Slot, Head, Known, sites, unit_of, params_of, heads}
-use Rattle.safl_typing.specs.Typing.{Differ, Has}
 use Rattle.safl_word.specs.Limits.{bindings_max, functions_max, params_max, sites_max, nodes_max}
 use Rattle.safl_typing.specs.Forms.{FunctionForm, Form, all_sites, nodes_of, param_names}
 use Rattle.safl_typing.specs.Forms.{IsFunctionOf, AreFunctionsOf, IsLast, function_names, IsFormOf}
-use Rattle.safl_term.specs.Readiness.{or_else}
 use Rattle.safl_term.proofs.OrElse.{neither}
 use Rattle.safl_typing.specs.Walk.{after, unless, needs, fault, fault_with, limit, limits_from, limits, placed_params, head_fault}
 use Rattle.safl_typing.specs.Walk.{joined_faults, group_fault, function, functions_from, main_fault, Exactly, outcome}

@@ -1,15 +1,12 @@
 -- The lists of how expressions are wanted, one by one.
+use Rattle.safl_typing.proofs.Common.{flexible, shown_expression, shown_expressions, shown_slots, widths_of}
 use Rattle.std.proofs.Common.{◌≡◌, ℕ, ◌+◌, ◌<◌, get_or, List, [], ◌∷◌, ◌++◌, length, take, Option, Some, None, Bool, refl, sym, ap, ◌∙◌}
 use Rattle.std.specs.Prelude.{map}
 use Rattle.std.proofs.lemmas.List.{map-append}
 use Rattle.safl_typing.specs.declared.expression.Expression as code
 use Rattle.safl_typing.specs.declared.heads.Slot as code_slot
 use Rattle.safl_typing.specs.declared.typed.Wanted as code_wanted
-use Rattle.safl_typing.specs.Rewriting.{flexible}
-use Rattle.safl_typing.specs.Typing.{widths_of}
 use Rattle.safl_typing.specs.Walk.{Wanted, Any, Exactly, exactly}
-use Rattle.safl_typing.specs.Plain.{shown_expression, shown_expressions}
-use Rattle.safl_typing.specs.PlainHeads.{shown_slots}
 use Rattle.safl_typing.specs.PlainTyped.{shown_wanted, operand_wanted, operands_wanted}
 use Rattle.safl_typing.proofs.ListsByOne.{upto, slots_upto}
 

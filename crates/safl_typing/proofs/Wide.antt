@@ -1,14 +1,11 @@
 -- Widths are from 1 to the greatest: of slots, heads and what the table gives.
+use Rattle.safl_typing.proofs.Common.{Bindings, Primitive, a_binding, bytes_eq, no_binding, same_Some}
 use Rattle.std.proofs.Common.{◌≡◌, ℕ, suc, List, [], ◌∷◌, ◌++◌, map, Option, Some, None, Bool, true, false, cond, refl, ap, ◌∙◌, subst, arith}
-use Rattle.std.specs.Str.{bytes_eq}
 use Rattle.std.proofs.lemmas.Nat.{pow_pos}
-use Rattle.std.proofs.lemmas.Option.{same_Some}
 use Rattle.safl_word.specs.Words.{Word, IsWord, AreWords}
-use Rattle.safl_word.specs.declared.primitive.Primitive.{Primitive}
 use Rattle.safl_word.specs.Primitives.{result_width, apply_prim}
 use Rattle.safl_word.proofs.Widths.{widths, apply_width}
 use Rattle.safl_word.proofs.Fits.{apply_fits}
-use Rattle.safl_typing.specs.Rewriting.{Bindings, no_binding, a_binding}
 use Rattle.safl_typing.specs.Heads.{Slot, Head, Known, Numbered, first_head, Callee, Member, Above, Unknown, member_or, callee}
 use Rattle.std.specs.Option.{option_or as later}
 use Rattle.safl_typing.specs.Typing.{At, innermost, slots, word, widths_of}

@@ -1,19 +1,15 @@
 -- A term has the width that its expression has.
+use Rattle.safl_typing.proofs.Common.{Arms, Binds, Primitive, Program, Tree, Trees, bytes_eq, same_Some}
 use Rattle.std.proofs.Common.{◌≡◌, ℕ, suc, ◌+◌, ◌<◌, List, [], ◌∷◌, ◌++◌, length, Option, Some, None, Bool, true, false, cond, refl, sym, ap, ◌∙◌, subst, arith}
 use Rattle.std.specs.Prelude.{slice_get, ◌==◌, nat_lt, ◌&&◌}
-use Rattle.std.specs.Str.{bytes_eq}
 use Rattle.std.proofs.lemmas.Bool.{eq-eqb, eqb-true, ltb-true}
-use Rattle.std.proofs.lemmas.Option.{same_Some}
 use Rattle.std.specs.Cmp.{first_so}
-use Rattle.safl_word.specs.declared.primitive.Primitive.{Primitive}
 use Rattle.safl_word.specs.declared.primitive.Primitive.TheVariants.{Add, Sub, Mul, And, Or, Xor, Not, Eq, Ne, Lt, Le, Gt, Ge, Shl, Shr, Cat, Bits, Ext}
 use Rattle.safl_word.specs.Primitives.{is_width, result_width, equal_widths, compared_widths, one_width, two_widths}
 use Rattle.safl_word.proofs.Widths.{within}
 use Rattle.safl_term.specs.Terms.{Term, Terms}
-use Rattle.safl_term.specs.Program.{Program}
 use Rattle.safl_term.specs.WellFormed.{HasWidth, HaveWidths}
 use Rattle.safl_tree.specs.Tree as source
-use Rattle.safl_tree.specs.Tree.{Tree, Trees, Binds, Arms}
 use Rattle.safl_tree.specs.Printable as printable
 use Rattle.safl_tree.specs.Printable.{operands, IsLabel, IsFormed, AreFormed, AreFormedBinds, AreFormedArms}
 use Rattle.safl_typing.specs.Rewriting.{Expression, Number, Sized, Variable, If, Let, Op, Call, Expressions, no_expression, an_expression, Bindings}

@@ -1,14 +1,9 @@
 -- Whether a file has faults, and which netlist it is, doesn't depend on its places.
+use Rattle.safl_verilog.proofs.Common.{Reg, Signal, Sort, VFault, Wire, flat_map, map-append, op_width}
 use Rattle.std.proofs.Common.{◌≡◌, ℕ, suc, List, [], ◌∷◌, ◌++◌, map, Bool, true, false, cond, not, ◌==◌, ◌&&◌, ◌||◌, Some, None, Option, refl, sym, ap, ◌∙◌, bytes_eq}
 use Rattle.std.specs.Prelude.{is_none}
 use Rattle.std.specs.Prelude.{filter, unwrap_or, codes}
-use Rattle.std.specs.List.{flat_map}
-use Rattle.std.proofs.lemmas.List.{map-append}
-use Rattle.safl_net.specs.Netlist.{Signal, Reg, Wire}
-use Rattle.safl_net.specs.Widths.{op_width}
-use Rattle.safl_verilog.specs.declared.token.Sort.{Sort}
 use Rattle.safl_verilog.specs.declared.token.Sort.TheVariants as sorts
-use Rattle.safl_verilog.specs.declared.fault.VFault.{VFault}
 use Rattle.safl_verilog.specs.Files.{Spot, RightSide, Literal, Plain, Inverted, Binary, Choice, Joined, Slice, Declaration, Statement, Assign, Always, File}
 use Rattle.safl_verilog.specs.Faults.{where_not, number_faults, range_faults, expression_number_faults, stated_number_faults}
 use Rattle.safl_verilog.specs.FaultParts.{declared_number_faults}

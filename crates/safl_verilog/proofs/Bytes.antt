@@ -1,9 +1,6 @@
 -- Which bytes begin which piece.
+use Rattle.safl_verilog.proofs.Common.{is_blank, is_digit, is_start, nat_tests}
 use Rattle.std.proofs.Common.{◌≡◌, ℕ, Bool, true, false, refl, arith}
-use Rattle.std.proofs.lemmas.Bool.Decides.{nat_tests}
-use Rattle.safl_word.specs.Numerals.{is_digit}
-use Rattle.safl_word.specs.Tokens.{is_blank}
-use Rattle.safl_net.specs.Names.{is_start}
 use Rattle.safl_verilog.proofs.Runs.{other_than}
 
 -- a byte that passes a test that blanks fail is no blank

@@ -1,31 +1,23 @@
 -- The expression that is written of a cell means the cell.
+use Rattle.safl_verilog.proofs.Common.{Each, IsIdentifier, Op, Primitive, VFault, is_digit, list_all, literal, signal_widths, value}
 use Rattle.std.proofs.Common.{◌≡◌, ℕ, ◌+◌, ◌-◌, ◌<◌, ◌≤◌, ◌^◌, List, [], ◌∷◌, ◌++◌, map, drop, Bool, true, ◌&&◌, nat_le, nat_lt, Some, Option}
 use Rattle.std.proofs.Common.{refl, sym, ap, subst, ◌∙◌, arith, append_assoc, lit<}
 use Rattle.std.specs.Prelude.{codes, decimal}
-use Rattle.std.specs.List.{list_all}
 use Rattle.std.proofs.lemmas.Bool.{and_parts, le-leb, leb-true, lt-ltb, ltb-true}
 use Rattle.std.proofs.Math.Nat.{pow-le-pow_right}
 use Rattle.safl_word.specs.Words.{Word, IsWord}
 use Rattle.safl_word.specs.Primitives.{one_width, two_widths, where_true}
 use Rattle.safl_word.proofs.Widths.{only_where}
-use Rattle.safl_word.specs.Numerals.{is_digit, value}
-use Rattle.safl_word.specs.declared.primitive.Primitive.{Primitive}
 use Rattle.safl_word.specs.declared.primitive.Primitive.TheVariants as prims
 use Rattle.safl_word.proofs.Booleans.{all_three}
 use Rattle.safl_word.proofs.Words.{where_holds}
-use Rattle.safl_net.specs.declared.cell.Op.{Op}
 use Rattle.safl_net.specs.declared.cell.Op.TheVariants as ops
 use Rattle.safl_net.specs.Netlist.{Netlist, width_of}
 use Rattle.safl_net.specs.Operands.{no_operand, one_operand, mux_operands}
 use Rattle.safl_net.specs.Widths.{op_width, HasWord}
-use Rattle.safl_net.specs.Making.{signal_widths}
 use Rattle.safl_net.specs.Making.{name_at as name_of}
-use Rattle.safl_net.specs.Written.{literal}
-use Rattle.safl_verilog.specs.declared.fault.VFault.{VFault}
-use Rattle.safl_verilog.specs.Tokens.{IsIdentifier}
 use Rattle.safl_verilog.specs.Files.{Spot, RightSide, Binary}
 use Rattle.safl_verilog.specs.Faults.{is_short, before_quote, behind_quote, base_at, literal_width, literal_value, is_word, is_literal, expression_number_faults, operation, operands, where_not}
-use Rattle.safl_net.specs.Arranged.{Each}
 use Rattle.safl_verilog.proofs.Runs.{other_than}
 use Rattle.safl_verilog.proofs.Decimals.{decimal_numeral, decimal_value, decimal_short}
 use Rattle.safl_verilog.proofs.Printed.{is_operator, IsWritten, FineExpression}

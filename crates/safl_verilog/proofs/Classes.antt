@@ -1,19 +1,13 @@
 -- The classes of tokens by their texts are the classes by their codes.
+use Rattle.safl_verilog.proofs.Common.{Keyword, Only, Primitive, Sort, Spot, Symbol, TokenKind, within}
 use Rattle.std.proofs.Common.{◌≡◌, Bool, cond, [], ◌∷◌, Option, Some, None, refl, ap, bytes_eq}
 use mathlib.Core.Path.{fun_ext}
-use Rattle.safl_grammar.specs.Sets.{Only, within}
-use Rattle.safl_word.specs.declared.primitive.Primitive.{Primitive}
 use Rattle.safl_word.specs.Operators.{operator_with}
 use Rattle.safl_word.specs.Operators
-use Rattle.safl_verilog.specs.declared.token.Keyword.{Keyword}
 use Rattle.safl_verilog.specs.declared.token.Keyword.TheVariants as keywords
-use Rattle.safl_verilog.specs.declared.token.Symbol.{Symbol}
 use Rattle.safl_verilog.specs.declared.token.Symbol.TheVariants as symbols
-use Rattle.safl_verilog.specs.declared.token.TokenKind.{TokenKind}
 use Rattle.safl_verilog.specs.declared.token.TokenKind.TheVariants as kinds
-use Rattle.safl_verilog.specs.declared.token.Sort.{Sort}
 use Rattle.safl_verilog.specs.Tokens.{keyword_text, symbol_text, VerilogTerminal}
-use Rattle.safl_verilog.specs.Files.{Spot}
 use Rattle.safl_verilog.specs.Grammar.{spot, verilog_text_in, spelled_as, identifier_in, number_in, literal_in, declares}
 use Rattle.safl_verilog.specs.Codes.{keyword_code, symbol_code, code_of, classed, operators, primitive_in, sort_codes, sort_in}
 

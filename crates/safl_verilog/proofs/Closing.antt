@@ -1,8 +1,7 @@
 -- Where a comment ends.
+use Rattle.safl_verilog.proofs.Common.{Decides-eqb, same_Some}
 use Rattle.std.proofs.Common.{◌≡◌, ℕ, suc, List, [], ◌∷◌, ◌++◌, length, false, ◌==◌, ◌&&◌, Some, None, Option, refl, sym, ap, ◌∙◌, inl, inr}
 use Rattle.std.proofs.lemmas.Bool.{and_parts, or_parts}
-use Rattle.std.proofs.lemmas.Bool.Decides.{Decides-eqb}
-use Rattle.std.proofs.lemmas.Option.{same_Some}
 use Rattle.std.proofs.Math.Bool.{and-false}
 use Rattle.safl_verilog.specs.Tokens.{has_close}
 use Rattle.safl_verilog.specs.Pieces.{closing, one_more}

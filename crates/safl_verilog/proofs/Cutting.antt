@@ -1,20 +1,12 @@
 -- A piece that stands at the front of a text is found there, so a text is cut in one way.
+use Rattle.safl_verilog.proofs.Common.{Keyword, Symbol, TokenKind, and_parts, base_of, list_all, nat_tests, net_name_max, start_part}
 use Rattle.std.proofs.Common.{◌≡◌, ◌≢◌, ℕ, suc, ◌+◌, ◌≤◌, List, [], ◌∷◌, ◌++◌, length, take, drop, true, not, ◌==◌, nat_le, Some, None, Option, refl, sym, ap, subst, ◌∙◌, arith, append_assoc}
-use Rattle.std.specs.List.{list_all}
 use Rattle.std.proofs.Math.Seq.{take-append_seam, drop-append_seam, take-append-add, drop-append-add}
-use Rattle.std.proofs.lemmas.Bool.{and_parts}
-use Rattle.std.proofs.lemmas.Bool.Decides.{nat_tests}
 use Rattle.safl_word.specs.Numerals.{is_digit, IsNumeral}
-use Rattle.safl_word.specs.Tokens.{base_of}
 use Rattle.safl_net.specs.Names.{is_start, is_part, are_parts, is_identifier}
-use Rattle.safl_verilog.specs.declared.token.Keyword.{Keyword}
-use Rattle.safl_verilog.specs.declared.token.Symbol.{Symbol}
 use Rattle.safl_verilog.specs.declared.token.Symbol.TheVariants as symbols
-use Rattle.safl_verilog.specs.declared.token.TokenKind.{TokenKind}
 use Rattle.safl_verilog.specs.declared.token.TokenKind.TheVariants as kinds
 use Rattle.safl_verilog.specs.Tokens.{keyword_text, symbol_text, stops, next_base, IsVerilogToken, VerilogPiece, Blank, Line, Block, Lexeme, piece_text, StandsInVerilog}
-use Rattle.safl_word.specs.Limits.{net_name_max}
-use Rattle.safl_net.proofs.SignalKinds.{start_part}
 use Rattle.safl_verilog.specs.Pieces.{run, named, all_keywords, single_symbols, double_symbols, word_kind, first_word, sized_length, first_number}
 use Rattle.safl_verilog.specs.Pieces.{one_symbol, two_symbols, first_symbol, block, piece_at, first_piece}
 use Rattle.safl_verilog.proofs.Runs.{other_than, run_of, are_parts-all, named_none}

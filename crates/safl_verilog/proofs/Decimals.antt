@@ -1,8 +1,7 @@
 -- The decimal digits of a number are a numeral of it.
+use Rattle.safl_verilog.proofs.Common.{Decides-eqb, list_all, nat_tests}
 use Rattle.std.proofs.Common.{◌≡◌, ℕ, zero, suc, ◌+◌, ◌*◌, ◌/◌, ◌%◌, ◌^◌, ◌<◌, ◌≤◌, List, [], ◌∷◌, length, Bool, true, false, cond, ◌==◌, ◌&&◌, nat_le, nat_lt, refl, sym, ap, subst, ◌∙◌, arith, lit<}
-use Rattle.std.specs.List.{list_all}
 use Rattle.std.specs.Fmt.{digits, digits_onto, digit_glyph, decimal}
-use Rattle.std.proofs.lemmas.Bool.Decides.{Decides-eqb, nat_tests}
 use Rattle.std.proofs.Math.Nat.{pow-suc, pow-zero}
 use Rattle.safl_word.specs.Numerals.{digit, is_digit, value, IsNumeral}
 use Rattle.safl_word.proofs.WordLaws.{digit_is, one_digit}

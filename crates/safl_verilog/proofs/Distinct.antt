@@ -1,9 +1,6 @@
 -- Lists of names that are all different, and what is looked up by them.
+use Rattle.safl_verilog.proofs.Common.{Each, bytes_eq-Decides, filter, flat_map, slice_get, ◌⊎◌}
 use Rattle.std.proofs.Common.{◌≡◌, ℕ, zero, suc, List, [], ◌∷◌, ◌++◌, map, Bool, true, false, cond, Some, refl, sym, ap, subst, ◌∙◌, inl, inr, bytes_eq}
-use Rattle.std.specs.Prelude.{◌⊎◌, slice_get, filter}
-use Rattle.std.specs.List.{flat_map}
-use Rattle.std.proofs.lemmas.Slice.Eq.{bytes_eq-Decides}
-use Rattle.safl_net.specs.Arranged.{Each}
 
 abbrev pub Name : Type 0
 Name = List ℕ

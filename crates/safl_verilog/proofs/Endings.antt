@@ -1,10 +1,7 @@
 -- A file of the grammar ends in `;` and `endmodule`.
+use Rattle.safl_verilog.proofs.Common.{Decides-eqb, Only, VerilogTerminal, append-nil, within}
 use Rattle.std.proofs.Common.{◌≡◌, ℕ, zero, suc, Bool, true, false, cond, ◌==◌, List, [], ◌∷◌, ◌++◌, Option, Some, None, refl, sym, ap, subst, ◌∙◌, append_assoc, inl, inr}
-use Rattle.std.proofs.lemmas.List.{append-nil}
-use Rattle.std.proofs.lemmas.Bool.Decides.{Decides-eqb}
-use Rattle.safl_grammar.specs.Sets.{Only, within}
 use Rattle.safl_grammar.specs.Syntax.{Syntax, nothing, token, follows, turns}
-use Rattle.safl_verilog.specs.Tokens.{VerilogTerminal}
 use Rattle.safl_verilog.specs.Files.{Spot, Declaration, Statement, Assign, Always, File}
 use Rattle.safl_verilog.specs.Grammar
 use Rattle.safl_verilog.specs.Grammar.{spot}

@@ -1,12 +1,8 @@
 -- The file that is written of a netlist, and its text.
+use Rattle.safl_verilog.proofs.Common.{Op, Primitive, Sort, append-nil, flat_map, flat_map-append}
 use Rattle.std.proofs.Common.{◌≡◌, ℕ, ◌-◌, List, [], ◌∷◌, ◌++◌, map, Bool, true, false, cond, Some, None, refl, sym, ap, ◌∙◌, append_assoc}
 use Rattle.std.specs.Prelude.{codes, decimal, filter}
-use Rattle.std.specs.List.{flat_map}
-use Rattle.std.proofs.lemmas.List.{append-nil}
-use Rattle.std.proofs.lemmas.Grind.{flat_map-append}
-use Rattle.safl_word.specs.declared.primitive.Primitive.{Primitive}
 use Rattle.safl_word.specs.declared.primitive.Primitive.TheVariants as prims
-use Rattle.safl_net.specs.declared.cell.Op.{Op}
 use Rattle.safl_net.specs.declared.cell.Op.TheVariants as ops
 use Rattle.safl_net.specs.Netlist.{Netlist, Signal, Kind, Input, Reg, Wire, Cell, width_of}
 use Rattle.safl_net.specs.CellTexts
@@ -17,7 +13,6 @@ use Rattle.safl_net.specs.WrittenParts.{port, input_port, output_port, input_dec
 use Rattle.safl_net.specs.Written.{assignment, update}
 use Rattle.safl_net.specs.WrittenParts.{register_declaration, wire_declaration, wire_assignment, output_assignment, register_update}
 use Rattle.safl_net.specs.Written.{header, declarations, statements, written}
-use Rattle.safl_verilog.specs.declared.token.Sort.{Sort}
 use Rattle.safl_verilog.specs.declared.token.Sort.TheVariants as sorts
 use Rattle.safl_verilog.specs.declared.token.Symbol.TheVariants as symbols
 use Rattle.safl_verilog.specs.Tokens.{VerilogPiece, text_of_all, symbol_text}

@@ -1,20 +1,12 @@
 -- The piece that is found at the front of a text stands there.
+use Rattle.safl_verilog.proofs.Common.{Decides-eqb, IsNumeral, Keyword, Symbol, TokenKind, base_of, is_blank, is_digit, is_identifier}
+use Rattle.safl_verilog.proofs.Common.{is_part, is_start, nat_tests, net_name_max, same_Some, start_part}
 use Rattle.std.proofs.Common.{◌≡◌, ◌≢◌, ℕ, suc, ◌+◌, ◌≤◌, List, [], ◌∷◌, ◌++◌, length, take, drop, true, not, ◌==◌, nat_le, Some, None, Option, refl}
 use Rattle.std.proofs.Common.{sym, ap, subst, ◌∙◌, arith, inl, inr, append_assoc}
 use Rattle.std.proofs.Math.Seq.{take-append_seam, take-append-add, drop-append-add}
 use Rattle.std.proofs.lemmas.List.{take-append-drop, length-take-le}
-use Rattle.std.proofs.lemmas.Bool.Decides.{Decides-eqb, nat_tests}
-use Rattle.std.proofs.lemmas.Option.{same_Some}
-use Rattle.safl_word.specs.Numerals.{is_digit, IsNumeral}
-use Rattle.safl_word.specs.Tokens.{is_blank, base_of}
-use Rattle.safl_net.specs.Names.{is_start, is_part, is_identifier}
-use Rattle.safl_verilog.specs.declared.token.Keyword.{Keyword}
-use Rattle.safl_verilog.specs.declared.token.Symbol.{Symbol}
-use Rattle.safl_verilog.specs.declared.token.TokenKind.{TokenKind}
 use Rattle.safl_verilog.specs.declared.token.TokenKind.TheVariants as kinds
 use Rattle.safl_verilog.specs.Tokens.{keyword_text, symbol_text, stops, next_base, base_with, IsVerilogToken, VerilogPiece, Blank, Line, Block, Lexeme, piece_text, StandsInVerilog}
-use Rattle.safl_word.specs.Limits.{net_name_max}
-use Rattle.safl_net.proofs.SignalKinds.{start_part}
 use Rattle.safl_verilog.specs.Pieces.{run, named, all_keywords, single_symbols, double_symbols, word_kind, first_bytes, first_word, sized_length}
 use Rattle.safl_verilog.specs.Pieces.{first_number, one_symbol, two_symbols, first_symbol, closing, block, first_comment, first_piece}
 use Rattle.safl_verilog.proofs.Runs.{chosen, run_le, run_all, run_stops, are_parts-all, named_has}

@@ -1,9 +1,6 @@
 -- Where a front of a text ends: between two of the text's pieces, or within one.
+use Rattle.safl_verilog.proofs.Common.{TokenKind, is_digit, is_part, ◌⊎◌}
 use Rattle.std.proofs.Common.{◌≡◌, ℕ, List, [], ◌∷◌, ◌++◌, Bool, true, not, ◌==◌, None, refl, sym, ap, subst, ◌∙◌, inl, inr, append_assoc}
-use Rattle.std.specs.Prelude.{◌⊎◌}
-use Rattle.safl_word.specs.Numerals.{is_digit}
-use Rattle.safl_net.specs.Names.{is_part}
-use Rattle.safl_verilog.specs.declared.token.TokenKind.{TokenKind}
 use Rattle.safl_verilog.specs.declared.token.TokenKind.TheVariants as kinds
 use Rattle.safl_verilog.specs.Tokens.{stops, next_base, IsVerilogToken, VerilogPiece, Blank, Line, Block, Lexeme, piece_text, text_of_all, StandsInVerilog, StandAll}
 

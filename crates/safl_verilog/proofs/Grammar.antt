@@ -1,6 +1,6 @@
 -- The reader of files answers as the grammar says.
+use Rattle.safl_verilog.proofs.Common.{Keyword, Symbol, VerilogTerminal, keyword_text, symbol_text, ◌⊎◌}
 use Rattle.std.proofs.Common.{◌≡◌, ℕ, Bool, true, false, cond, List, [], ◌∷◌, ◌++◌, Option, Some, None, Ok, Err, inl, inr, refl, sym, subst, ◌∙◌}
-use Rattle.std.specs.Prelude.{◌⊎◌}
 use Rattle.safl_grammar.specs.Sets.{Set, Every, Only, within}
 use Rattle.safl_grammar.specs.Syntax.{Rule, Syntax, token, follows, either}
 use Rattle.safl_grammar.specs.Reading.{Read, Reading, read_token}
@@ -10,11 +10,8 @@ use Rattle.safl_grammar.proofs.Tokens.{parses_token}
 use Rattle.safl_grammar.proofs.Same.{Same, same, same_then, same_either, same_factored, parses_same}
 use Rattle.safl_grammar.proofs.Rules.{then, or_else, repeated}
 use Rattle.safl_grammar.proofs.Text
-use Rattle.safl_verilog.specs.declared.token.Keyword.{Keyword}
 use Rattle.safl_verilog.specs.declared.token.Keyword.TheVariants as keywords
-use Rattle.safl_verilog.specs.declared.token.Symbol.{Symbol}
 use Rattle.safl_verilog.specs.declared.token.Symbol.TheVariants as symbols
-use Rattle.safl_verilog.specs.Tokens.{keyword_text, symbol_text, VerilogTerminal}
 use Rattle.safl_verilog.specs.Files.{Spot, RightSide, Literal, Plain, Inverted, Binary, Choice, Joined, Slice, Declaration, Statement, Assign, Always, File}
 use Rattle.safl_verilog.specs.Grammar
 use Rattle.safl_verilog.specs.Grammar.{spot, verilog_keyword, verilog_symbol}

@@ -1,14 +1,11 @@
 -- What is found by the names of a file whose names are all different.
+use Rattle.safl_verilog.proofs.Common.{Each, each_stands, map-append, slice_get}
 use Rattle.std.proofs.Common.{◌≡◌, ◌≢◌, ℕ, zero, suc, List, [], ◌∷◌, ◌++◌, map, true, false, cond, not, ◌||◌, Some, None, refl, sym, ap, subst, ◌∙◌, inl, inr, bytes_eq, append_assoc}
-use Rattle.std.specs.Prelude.{slice_get}
-use Rattle.std.proofs.lemmas.List.{map-append}
 use Rattle.std.proofs.Math.Bool.{or-true}
 use Rattle.safl_verilog.specs.declared.fault.VRule.TheVariants as rules
 use Rattle.safl_verilog.specs.Files.{Spot, Declaration, Statement, Assign, Always}
 use Rattle.safl_verilog.specs.Faults.{where_not, at, among, repeat_faults, find, assigned, updated}
 use Rattle.safl_verilog.specs.Netlists.{declared_place}
-use Rattle.safl_net.specs.Arranged.{Each}
-use Rattle.safl_net.proofs.EachOf.{each_stands}
 use Rattle.safl_verilog.proofs.Distinct.{Name, Has, Distinct, has_right, distinct_apart, same_name, other_name}
 
 abbrev pub spot_names : List Spot → List Name

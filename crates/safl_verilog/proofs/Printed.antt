@@ -1,16 +1,10 @@
 -- The pieces of a file's text as it is written, and which files can be written.
+use Rattle.safl_verilog.proofs.Common.{IsNumeral, Keyword, Primitive, Sort, Symbol, codes, flat_map}
 use Rattle.std.proofs.Common.{◌≡◌, ℕ, List, [], ◌∷◌, ◌++◌, Bool, true, false, Some, None, Option}
-use Rattle.std.specs.Prelude.{codes}
-use Rattle.std.specs.List.{flat_map}
-use Rattle.safl_word.specs.Numerals.{IsNumeral}
-use Rattle.safl_word.specs.declared.primitive.Primitive.{Primitive}
 use Rattle.safl_word.specs.declared.primitive.Primitive.TheVariants as prims
-use Rattle.safl_verilog.specs.declared.token.Keyword.{Keyword}
 use Rattle.safl_verilog.specs.declared.token.Keyword.TheVariants as keywords
-use Rattle.safl_verilog.specs.declared.token.Symbol.{Symbol}
 use Rattle.safl_verilog.specs.declared.token.Symbol.TheVariants as symbols
 use Rattle.safl_verilog.specs.declared.token.TokenKind.TheVariants as kinds
-use Rattle.safl_verilog.specs.declared.token.Sort.{Sort}
 use Rattle.safl_verilog.specs.declared.token.Sort.TheVariants as sorts
 use Rattle.safl_verilog.specs.Tokens.{keyword_text, symbol_text, IsIdentifier, VerilogPiece, Blank, Lexeme}
 use Rattle.safl_verilog.specs.Files.{Spot, RightSide, Literal, Plain, Inverted, Binary, Choice, Joined, Slice, Declaration, Statement, Assign, Always}

@@ -1,16 +1,13 @@
 -- The tokens of a written file read as that file, places aside.
+use Rattle.safl_verilog.proofs.Common.{Each, Primitive, Sort, append-nil, flat_map}
 use Rattle.std.proofs.Common.{◌≡◌, ℕ, ◌+◌, ◌<◌, List, [], ◌∷◌, ◌++◌, length, map, Bool, true, false, cond, Some, None, Option, Ok, refl, sym, ap, ◌∙◌, append_assoc}
-use Rattle.std.specs.List.{flat_map}
-use Rattle.std.proofs.lemmas.List.{append-nil}
 use Rattle.safl_grammar.specs.Reading.{Read, Reading, ◌>>=◌, head_of, read_many, read_follows, read_nothing}
 use Rattle.safl_grammar.specs.Text.{at_end}
 use Rattle.safl_grammar.proofs.Many.{many_step}
 use Rattle.safl_grammar.proofs.Small.{eats_parses}
-use Rattle.safl_word.specs.declared.primitive.Primitive.{Primitive}
 use Rattle.safl_word.specs.declared.primitive.Primitive.TheVariants as prims
 use Rattle.safl_verilog.specs.declared.token.Keyword.TheVariants as keywords
 use Rattle.safl_verilog.specs.declared.token.Symbol.TheVariants as symbols
-use Rattle.safl_verilog.specs.declared.token.Sort.{Sort}
 use Rattle.safl_verilog.specs.declared.token.Sort.TheVariants as sorts
 use Rattle.safl_verilog.specs.Tokens.{VerilogTerminal, VerilogPiece, Blank, Line, Block, Lexeme, piece_text, tokens_from}
 use Rattle.safl_verilog.specs.Files.{Spot, RightSide, Literal, Plain, Inverted, Binary, Choice, Joined, Slice, Declaration, Statement, Assign, Always, File}
@@ -21,7 +18,6 @@ use Rattle.safl_verilog.specs.Reader.{read_always, read_stmt, read_another_id, r
 use Rattle.safl_verilog.specs.Reader.{read_body, read_file, read_text}
 use Rattle.safl_verilog.proofs.Grammar.{another_id_parses, another_decl_parses, another_stmt_parses}
 use Rattle.safl_verilog.proofs.Printed.{is_operator, declaration_pieces, statement_pieces, port_pieces, last_pieces, body_pieces, header_end, file_pieces, FineStatement}
-use Rattle.safl_net.specs.Arranged.{Each}
 
 -- ---- files without places
 

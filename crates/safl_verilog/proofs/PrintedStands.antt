@@ -1,13 +1,9 @@
 -- The pieces of a written file stand one before the other.
+use Rattle.safl_verilog.proofs.Common.{Each, Keyword, Symbol, codes, each_stands, is_digit, is_part}
 use Rattle.std.proofs.Common.{◌≡◌, ◌≢◌, ℕ, List, [], ◌∷◌, ◌++◌, Bool, true, false, ◌==◌, ◌||◌, Some, None, Option, refl, sym, ap, subst, ◌∙◌, append_assoc}
 use Rattle.std.proofs.Common.{lit≤}
-use Rattle.std.specs.Prelude.{codes}
 use Rattle.std.specs.List.{flat_map, list_any}
-use Rattle.safl_word.specs.Numerals.{is_digit}
-use Rattle.safl_verilog.specs.declared.token.Keyword.{Keyword}
-use Rattle.safl_verilog.specs.declared.token.Symbol.{Symbol}
 use Rattle.safl_verilog.specs.declared.token.Symbol.TheVariants as symbols
-use Rattle.safl_net.specs.Names.{is_part}
 use Rattle.safl_verilog.specs.Tokens.{keyword_text, symbol_text, stops, next_base, IsSized, VerilogPiece, piece_text, text_of_all, StandsInVerilog, StandAll}
 use Rattle.safl_verilog.specs.Files.{Spot, RightSide, Literal, Plain, Inverted, Binary, Choice, Joined, Slice, Declaration, Statement, Assign, Always}
 use Rattle.safl_verilog.specs.Pieces.{named, double_symbols}
@@ -16,8 +12,6 @@ use Rattle.safl_verilog.proofs.Found.{no_keyword}
 use Rattle.safl_verilog.proofs.Printed.{line_end, sy, symbol_of, range_pieces, declaration_end, declaration_pieces, expression_pieces}
 use Rattle.safl_verilog.proofs.Printed.{statement_pieces, port_pieces, last_pieces, body_pieces, header_end, file_pieces, IsWritten, IsName}
 use Rattle.safl_verilog.proofs.Printed.{FineRange, FineDeclaration, FineExpression, FineStatement}
-use Rattle.safl_net.specs.Arranged.{Each}
-use Rattle.safl_net.proofs.EachOf.{each_stands}
 
 pub text_append : (xs ys : List VerilogPiece) → text_of_all (xs ++ ys) ≡ text_of_all xs ++ text_of_all ys
 text_append [] ys = refl

@@ -1,12 +1,8 @@
 -- The signals of a netlist that is read stand in order.
+use Rattle.safl_verilog.proofs.Common.{Cell, Declaration, File, Input, Reg, Signal, Sort, Spot, Wire, filter, map-append}
 use Rattle.std.proofs.Common.{◌≡◌, ℕ, List, [], ◌∷◌, ◌++◌, map, cond, Bool, true, false, not, ◌&&◌, Option, Some, None, refl, ap, subst, ◌∙◌, append_assoc}
-use Rattle.std.specs.Prelude.{filter}
-use Rattle.std.proofs.lemmas.List.{map-append}
-use Rattle.safl_net.specs.Netlist.{Signal, Input, Reg, Wire, Cell}
 use Rattle.safl_net.specs.Arranged.{IsInput, IsRegister, IsWire, Each, IsInOrder}
-use Rattle.safl_verilog.specs.declared.token.Sort.{Sort}
 use Rattle.safl_verilog.specs.declared.token.Sort.TheVariants as sorts
-use Rattle.safl_verilog.specs.Files.{Spot, Declaration, File}
 use Rattle.safl_verilog.specs.Faults.{is_clock, is_reset, is_data, is_input, is_reg, is_wire, literal_value, assigned, updated}
 use Rattle.safl_verilog.specs.Netlists.{signal_number, driven, register_of, signal_kind, signal_of, netlist}
 use Rattle.safl_verilog.specs.Laws.{ReadsInOrder}

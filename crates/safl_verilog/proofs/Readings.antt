@@ -1,14 +1,10 @@
 -- A text reads as one netlist, or has one first fault.
+use Rattle.safl_verilog.proofs.Common.{File, Netlist, VFault, drop-append_seam, ◌⊎◌}
 use Rattle.std.proofs.Common.{◌≡◌, ℕ, List, [], ◌∷◌, length, refl, sym, ap, subst, ◌∙◌, arith, inl, inr}
-use Rattle.std.specs.Prelude.{◌⊎◌}
-use Rattle.std.proofs.Math.Seq.{drop-append_seam}
 use Rattle.std.proofs.Math.ListN.{drop}
 use Rattle.safl_grammar.specs.Syntax.{Rule}
-use Rattle.safl_net.specs.Netlist.{Netlist}
 use Rattle.safl_verilog.specs.declared.fault.VRule.TheVariants as rules
-use Rattle.safl_verilog.specs.declared.fault.VFault.{VFault}
 use Rattle.safl_verilog.specs.Tokens.{VerilogTerminal, HasVerilogTokens}
-use Rattle.safl_verilog.specs.Files.{File}
 use Rattle.safl_verilog.specs.Faults.{at, faults}
 use Rattle.safl_verilog.specs.Netlists.{netlist}
 use Rattle.safl_verilog.specs.Reads.{IsFile, HasUnexpected, place_in, Reads, HasFault, lexical, unexpected, broken}

@@ -1,12 +1,7 @@
 -- Runs of bytes that pass a test, and texts of a list of names.
+use Rattle.safl_verilog.proofs.Common.{Decides-eqb, and_parts, bytes_eq-Decides, list_all, same_Some, ◌⊎◌}
 use Rattle.std.proofs.Common.{◌≡◌, ◌≢◌, ℕ, suc, ◌≤◌, List, [], ◌∷◌, ◌++◌, length, take, drop, Bool, true, false, cond, not, ◌==◌, ◌&&◌, Some, None, Option, refl, ap, subst, ◌∙◌, arith, inl, inr}
-use Rattle.std.specs.Prelude.{◌⊎◌}
-use Rattle.std.specs.List.{list_all}
 use Rattle.std.proofs.Common.{bytes_eq}
-use Rattle.std.proofs.lemmas.Slice.Eq.{bytes_eq-Decides}
-use Rattle.std.proofs.lemmas.Bool.{and_parts}
-use Rattle.std.proofs.lemmas.Bool.Decides.{Decides-eqb}
-use Rattle.std.proofs.lemmas.Option.{same_Some}
 use Rattle.safl_net.specs.Names.{is_part, are_parts}
 use Rattle.safl_verilog.specs.Tokens.{stops}
 use Rattle.safl_verilog.specs.Pieces.{run, named}

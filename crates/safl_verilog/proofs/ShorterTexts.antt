@@ -1,31 +1,19 @@
 -- A prefix of a written text that reads as a netlist is the whole text, with or without its last line feed.
+use Rattle.safl_verilog.proofs.Common.{Decides-eqb, IsFile, IsNetlist, Keyword, Netlist, Reads, Symbol, TokenKind, and_parts, append-nil}
+use Rattle.safl_verilog.proofs.Common.{base_of, codes, drop-append_seam, flat_map, is_digit, list_all, ◌⊎◌}
 use Rattle.std.proofs.Common.{◌≡◌, ℕ, ◌+◌, ◌≤◌, Bool, true, false, not, ◌==◌, List, [], ◌∷◌, ◌++◌, length, Some, None, refl, sym, ap, subst, ◌∙◌, arith, lit≤, inl, inr, append_assoc, length-append}
-use Rattle.std.specs.Prelude.{◌⊎◌, codes}
-use Rattle.std.specs.List.{flat_map, list_all}
-use Rattle.std.proofs.Math.Seq.{drop-append_seam}
 use Rattle.std.proofs.Math.ListN.{drop}
-use Rattle.std.proofs.lemmas.List.{append-nil}
 use Rattle.std.proofs.lemmas.List.Folds.{list_all-append}
-use Rattle.std.proofs.lemmas.Bool.{and_parts}
-use Rattle.std.proofs.lemmas.Bool.Decides.{Decides-eqb}
-use Rattle.safl_word.specs.Numerals.{is_digit}
-use Rattle.safl_word.specs.Tokens.{base_of}
 use Rattle.safl_net.specs.Names.{is_start, is_part, are_parts, is_identifier}
-use Rattle.safl_net.specs.Netlist.{Netlist}
-use Rattle.safl_net.specs.Rules.{IsNetlist}
 use Rattle.safl_net.specs.Written.{written}
-use Rattle.safl_verilog.specs.declared.token.Keyword.{Keyword}
 use Rattle.safl_verilog.specs.declared.token.Keyword.TheVariants as keywords
-use Rattle.safl_verilog.specs.declared.token.Symbol.{Symbol}
 use Rattle.safl_verilog.specs.declared.token.Symbol.TheVariants as symbols
-use Rattle.safl_verilog.specs.declared.token.TokenKind.{TokenKind}
 use Rattle.safl_verilog.specs.declared.token.TokenKind.TheVariants as kinds
 use Rattle.safl_verilog.specs.Tokens.{keyword_text, symbol_text, IsSized, IsVerilogToken, VerilogPiece, Blank, Line, Block}
 use Rattle.safl_verilog.specs.Tokens.{Lexeme, piece_text, text_of_all, StandsInVerilog, StandAll, VerilogTerminal, tokens_from, HasVerilogTokens}
 use Rattle.safl_verilog.specs.Pieces.{named, all_keywords, word_kind}
 use Rattle.safl_verilog.specs.Files.{Spot, Declaration, Statement, File}
 use Rattle.safl_verilog.specs.Codes.{keyword_code, symbol_code, code_of}
-use Rattle.safl_verilog.specs.Reads.{IsFile, Reads}
 use Rattle.safl_verilog.proofs.Runs.{other_than, are_parts-all}
 use Rattle.safl_verilog.proofs.Found.{word_kinds}
 use Rattle.safl_verilog.proofs.Texts.{same_pieces, final_end, split}

@@ -1,11 +1,8 @@
 -- Symbols and keywords by their texts.
+use Rattle.safl_verilog.proofs.Common.{Keyword, Symbol, is_identifier, keyword_text, symbol_text}
 use Rattle.std.proofs.Common.{◌≡◌, ◌≢◌, ℕ, ◌≤◌, [], ◌∷◌, length, true, Some, refl, lit≤}
-use Rattle.safl_net.specs.Names.{is_identifier}
-use Rattle.safl_verilog.specs.declared.token.Keyword.{Keyword}
 use Rattle.safl_verilog.specs.declared.token.Keyword.TheVariants as keywords
-use Rattle.safl_verilog.specs.declared.token.Symbol.{Symbol}
 use Rattle.safl_verilog.specs.declared.token.Symbol.TheVariants as symbols
-use Rattle.safl_verilog.specs.Tokens.{keyword_text, symbol_text}
 use Rattle.safl_verilog.specs.Pieces.{named, all_keywords, double_symbols}
 
 pub keyword_named : (k : Keyword) → named keyword_text all_keywords (keyword_text k) ≡ Some k

@@ -1,11 +1,6 @@
 -- A text is cut into tokens in at most one way, and it is or it has a first place where it is not.
+use Rattle.safl_verilog.proofs.Common.{TokenKind, append-nil, drop-append_seam, is_identifier, same_Some, ◌⊎◌}
 use Rattle.std.proofs.Common.{◌≡◌, ℕ, zero, suc, ◌≤◌, List, [], ◌∷◌, ◌++◌, length, drop, true, false, Some, None, Option, refl, sym, ap, subst, ◌∙◌, arith, inl, inr, append_assoc, length-append}
-use Rattle.std.specs.Prelude.{◌⊎◌}
-use Rattle.std.proofs.Math.Seq.{drop-append_seam}
-use Rattle.std.proofs.lemmas.List.{append-nil}
-use Rattle.std.proofs.lemmas.Option.{same_Some}
-use Rattle.safl_net.specs.Names.{is_identifier}
-use Rattle.safl_verilog.specs.declared.token.TokenKind.{TokenKind}
 use Rattle.safl_verilog.specs.declared.token.TokenKind.TheVariants as kinds
 use Rattle.safl_verilog.specs.Tokens.{IsVerilogToken, VerilogPiece, Blank, Line, Block, Lexeme, piece_text}
 use Rattle.safl_verilog.specs.Tokens.{text_of_all, StandsInVerilog, StandAll, VerilogTerminal, tokens_from, HasVerilogTokens, HasVerilogLexicalFault}

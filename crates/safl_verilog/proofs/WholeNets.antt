@@ -1,14 +1,11 @@
 -- What is known of the signals and ports of a whole net.
+use Rattle.safl_verilog.proofs.Common.{IsWhole, bytes_eq-Decides, each_by_index, same_Some}
 use Rattle.std.proofs.Common.{◌≡◌, ℕ, suc, ◌+◌, List, [], ◌∷◌, ◌++◌, Some, None, Option, refl, sym, ap, subst, ◌∙◌, inl, inr, arith, bytes_eq}
 use Rattle.std.specs.Prelude.{slice_get, codes, IsSome}
-use Rattle.std.proofs.lemmas.Slice.Eq.{bytes_eq-Decides}
-use Rattle.std.proofs.lemmas.Option.{same_Some}
 use Rattle.safl_net.specs.Netlist
 use Rattle.safl_net.specs.Netlist.{Netlist, Signal, Input, Reg, Wire, Cell, IsSet, AllSet, width_of, place, output_place}
 use Rattle.safl_net.specs.Making
-use Rattle.safl_net.specs.Whole.{IsWhole}
 use Rattle.safl_net.specs.Arranged.{IsRegister, IsWire, Each}
-use Rattle.safl_net.proofs.EachOf.{each_by_index}
 use Rattle.safl_verilog.proofs.Runs.{chosen}
 use Rattle.safl_verilog.proofs.Distinct.{each_left, each_right, each_both}
 

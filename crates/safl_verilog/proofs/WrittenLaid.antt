@@ -1,23 +1,17 @@
 -- The text that is written of a netlist is cut into tokens, and they are a file of the grammar.
+use Rattle.safl_verilog.proofs.Common.{Each, Input, IsFile, IsNumeral, Kind, Netlist, Reg, Signal, Sort, Wire, each_by_index, each_join}
+use Rattle.safl_verilog.proofs.Common.{each_stands, get_some, slice_get_within, unwrap_or-slice_get}
 use Rattle.std.proofs.Common.{◌≡◌, ℕ, ◌-◌, ◌<◌, ◌≤◌, ◌^◌, List, [], ◌∷◌, length, map, Bool, true, Some, None, refl, sym, ap, subst, ◌∙◌, arith, lit≤, lit<, get_or}
 use Rattle.std.specs.Prelude.{codes, All, slice_get, unwrap_or}
-use Rattle.std.proofs.lemmas.Option.{slice_get_within, unwrap_or-slice_get}
-use Rattle.safl_word.specs.Numerals.{IsNumeral}
-use Rattle.safl_word.proofs.Lists.{get_some}
 use Rattle.safl_net.specs.Netlist
-use Rattle.safl_net.specs.Netlist.{Netlist, Signal, Kind, Input, Reg, Wire}
 use Rattle.safl_net.specs.Rules.{IsNetlist, SignalFits, KindFits}
 use Rattle.safl_net.specs.Names.{is_good}
 use Rattle.safl_net.specs.Making
 use Rattle.safl_net.specs.Making.{name_at as name_of}
 use Rattle.safl_net.specs.Written.{written}
-use Rattle.safl_net.specs.Arranged.{Each}
-use Rattle.safl_net.proofs.EachOf.{each_by_index, each_join, each_stands}
-use Rattle.safl_verilog.specs.declared.token.Sort.{Sort}
 use Rattle.safl_verilog.specs.declared.token.Sort.TheVariants as sorts
 use Rattle.safl_verilog.specs.Tokens.{IsIdentifier, text_of_all, StandAll, tokens_from}
 use Rattle.safl_verilog.specs.Files.{Spot, Declaration, Statement, File}
-use Rattle.safl_verilog.specs.Reads.{IsFile}
 use Rattle.safl_verilog.proofs.Found.{no_keyword}
 use Rattle.safl_verilog.proofs.Grammar.{spelled as file_spelled}
 use Rattle.safl_verilog.proofs.Cells.{spelled, cell_sound}

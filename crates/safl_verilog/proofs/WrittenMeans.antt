@@ -1,22 +1,15 @@
 -- A written file is the netlist that it was written of.
+use Rattle.safl_verilog.proofs.Common.{Each, IsInput, IsNetlist, Netlist, Reg, Signal, Sort, Wire, append-nil, each_join, each_stands}
+use Rattle.safl_verilog.proofs.Common.{filter, filter-append, literal, map-append}
 use Rattle.std.proofs.Common.{◌≡◌, ℕ, List, [], ◌∷◌, ◌++◌, map, Bool, true, false, Some, refl, sym, ap, subst, ◌∙◌, append_assoc}
-use Rattle.std.specs.Prelude.{filter}
-use Rattle.std.proofs.lemmas.List.{map-append, append-nil}
-use Rattle.std.proofs.lemmas.List.Elements.{filter-append}
 use Rattle.std.proofs.lemmas.Simd.{map-map}
 use Rattle.safl_word.proofs.Lists.{get_map}
-use Rattle.safl_net.specs.Netlist.{Netlist, Signal, Reg, Wire}
-use Rattle.safl_net.specs.Rules.{IsNetlist}
 use Rattle.safl_net.specs.Making.{name_at as name_of}
-use Rattle.safl_net.specs.Written.{literal}
-use Rattle.safl_verilog.specs.declared.token.Sort.{Sort}
 use Rattle.safl_verilog.specs.declared.token.Sort.TheVariants as sorts
 use Rattle.safl_verilog.specs.Files.{Spot, Plain, Declaration, Statement, File}
 use Rattle.safl_verilog.specs.Faults.{is_data, is_reg, is_wire, is_output, operands, assigned, updated}
 use Rattle.safl_verilog.specs.Netlists
 use Rattle.safl_verilog.specs.Netlists.{signals_of, declared_place, signal_number, cell_of, driven, register_of, signal_kind, signal_of, shown_signal, output_of, netlist}
-use Rattle.safl_net.specs.Arranged.{IsInput, Each}
-use Rattle.safl_net.proofs.EachOf.{each_join, each_stands}
 use Rattle.safl_verilog.proofs.WholeNets.{IsUpdated, IsAssigned}
 use Rattle.safl_verilog.proofs.Distinct.{Name, Distinct, each_mapped, each_both, filter_all, filter_none}
 use Rattle.safl_verilog.proofs.Lookups.{names, place_at}

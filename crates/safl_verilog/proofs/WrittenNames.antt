@@ -1,28 +1,20 @@
 -- The names of a written file, and what is found by them.
+use Rattle.safl_verilog.proofs.Common.{Declaration, Each, IsInput, IsNetlist, Keyword, Sort, each_join, get_some, map-append, value}
 use Rattle.std.proofs.Common.{◌≡◌, ◌≢◌, ℕ, ◌+◌, ◌-◌, ◌<◌, ◌≤◌, ◌^◌, List, [], ◌∷◌, ◌++◌, length, map, true, false, not, ◌&&◌, nat_le}
 use Rattle.std.proofs.Common.{Some, refl, sym, ap, subst, ◌∙◌, inl, inr, arith, lit<, bytes_eq}
 use Rattle.std.specs.Prelude.{◌⊎◌, codes, decimal, slice_get}
-use Rattle.std.proofs.lemmas.List.{map-append}
 use Rattle.std.proofs.lemmas.Bool.{and_parts, not-true}
-use Rattle.safl_word.specs.Numerals.{value}
-use Rattle.safl_word.proofs.Lists.{get_some}
 use Rattle.safl_word.proofs.Naturals.{short_is}
 use Rattle.safl_net.specs.Netlist.{Netlist, Signal, Kind, Input, Reg, Wire, width_of}
 use Rattle.safl_net.specs.Names.{is_good, is_identifier, is_reserved}
-use Rattle.safl_net.specs.Rules.{IsNetlist}
 use Rattle.safl_net.specs.Netlist
 use Rattle.safl_net.specs.Making
 use Rattle.safl_net.specs.Making.{name_at as name_of}
-use Rattle.safl_verilog.specs.declared.token.Keyword.{Keyword}
 use Rattle.safl_verilog.specs.declared.token.Keyword.TheVariants as keywords
-use Rattle.safl_verilog.specs.declared.token.Sort.{Sort}
 use Rattle.safl_verilog.specs.declared.token.Sort.TheVariants as sorts
 use Rattle.safl_verilog.specs.Tokens.{keyword_text, IsIdentifier}
-use Rattle.safl_verilog.specs.Files.{Declaration}
 use Rattle.safl_verilog.specs.Faults
 use Rattle.safl_verilog.specs.Faults.{find, passes, is_signal, is_clock, is_reset, width_in}
-use Rattle.safl_net.specs.Arranged.{IsInput, Each}
-use Rattle.safl_net.proofs.EachOf.{each_join}
 use Rattle.safl_verilog.proofs.WholeNets.{IsUpdated, IsAssigned}
 use Rattle.safl_verilog.proofs.Decimals.{decimal_value}
 use Rattle.safl_verilog.proofs.Distinct.{Name, Has, Distinct, Apart, has_either, has_left, has_right, distinct_between, has_at, distinct_at}

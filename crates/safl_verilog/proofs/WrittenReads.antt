@@ -1,16 +1,9 @@
 -- The text that is written of a whole netlist reads as that netlist, where its signals stand in order.
+use Rattle.safl_verilog.proofs.Common.{IsNetlist, IsWhole, Kind, Netlist, Reads, Signal, append-nil, each_stands, filter, filter-append}
 use Rattle.std.proofs.Common.{◌≡◌, List, [], ◌∷◌, ◌++◌, Bool, true, false, refl, sym, ap, subst, ◌∙◌}
-use Rattle.std.specs.Prelude.{filter}
-use Rattle.std.proofs.lemmas.List.{append-nil}
-use Rattle.std.proofs.lemmas.List.Elements.{filter-append}
-use Rattle.safl_net.specs.Netlist.{Netlist, Signal, Kind}
-use Rattle.safl_net.specs.Rules.{IsNetlist}
 use Rattle.safl_net.specs.Written.{written}
 use Rattle.safl_net.specs.Arranged.{IsInput, Each, IsInOrder}
-use Rattle.safl_net.specs.Whole.{IsWhole}
-use Rattle.safl_net.proofs.EachOf.{each_stands}
 use Rattle.safl_verilog.specs.Tokens.{tokens_from}
-use Rattle.safl_verilog.specs.Reads.{Reads}
 use Rattle.safl_verilog.proofs.WholeNets.{all_set, whole_ports, IsUpdated, IsAssigned, HasPorts}
 use Rattle.safl_verilog.proofs.Grammar.{spelled}
 use Rattle.safl_verilog.proofs.Distinct.{filter_all, filter_none}

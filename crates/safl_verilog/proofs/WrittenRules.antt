@@ -1,27 +1,17 @@
 -- A written file breaks no rule.
+use Rattle.safl_verilog.proofs.Common.{Cell, Decides-eqb, Each, Input, IsIdentifier, IsInput, Kind, Netlist, Reg, Signal, Sort, VFault}
+use Rattle.safl_verilog.proofs.Common.{Wire, each_by_index, each_join, each_stands, flat_map, flat_map-append, literal, map-append}
+use Rattle.safl_verilog.proofs.Common.{op_width, signal_widths, slice_get_within, unwrap_or-slice_get, value}
 use Rattle.std.proofs.Common.{◌≡◌, ℕ, ◌+◌, ◌-◌, ◌<◌, ◌≤◌, ◌^◌, List, [], ◌∷◌, ◌++◌, length, map, Bool, true, false, not, ◌==◌, ◌&&◌, ◌||◌, nat_lt}
 use Rattle.std.specs.Prelude.{is_none}
 use Rattle.std.proofs.Common.{Some, None, Option, refl, sym, ap, subst, ◌∙◌, inl, arith, append_assoc, lit<, get_or}
 use Rattle.std.specs.Prelude.{codes, decimal, slice_get, All, unwrap_or}
-use Rattle.std.specs.List.{flat_map}
-use Rattle.std.proofs.lemmas.List.{map-append}
-use Rattle.std.proofs.lemmas.Bool.Decides.{Decides-eqb}
-use Rattle.std.proofs.lemmas.Grind.{flat_map-append}
-use Rattle.std.proofs.lemmas.Option.{slice_get_within, unwrap_or-slice_get}
 use Rattle.std.proofs.lemmas.Bool.{lt-ltb}
-use Rattle.safl_word.specs.Numerals.{value}
 use Rattle.safl_net.specs.Netlist
-use Rattle.safl_net.specs.Netlist.{Netlist, Signal, Kind, Input, Reg, Wire, Cell}
 use Rattle.safl_net.specs.Names.{is_good}
-use Rattle.safl_net.specs.Widths.{op_width}
-use Rattle.safl_net.specs.Making.{signal_widths}
 use Rattle.safl_net.specs.Rules.{IsNetlist, SignalFits, KindFits, CellFits}
 use Rattle.safl_net.specs.Making.{name_at as name_of}
-use Rattle.safl_net.specs.Written.{literal}
-use Rattle.safl_verilog.specs.declared.token.Sort.{Sort}
 use Rattle.safl_verilog.specs.declared.token.Sort.TheVariants as sorts
-use Rattle.safl_verilog.specs.declared.fault.VFault.{VFault}
-use Rattle.safl_verilog.specs.Tokens.{IsIdentifier}
 use Rattle.safl_verilog.specs.Files.{Spot, Plain, Declaration, Statement, Assign, File}
 use Rattle.safl_verilog.specs.Faults.{is_range, stated_number_faults, all_number_faults, all_repeat_faults}
 use Rattle.safl_verilog.specs.FaultParts.{declared_number_faults, declared_names}
@@ -30,8 +20,6 @@ use Rattle.safl_verilog.specs.FaultParts.{header_faults, port_faults}
 use Rattle.safl_verilog.specs.Faults.{has_ports, all_port_faults, is_target, unfit_faults, operands, is_plain, expression_width, assigned, updated}
 use Rattle.safl_verilog.specs.Faults.{width_faults, assign_faults, always_faults, statement_faults, all_statement_faults, missing_faults}
 use Rattle.safl_verilog.specs.Faults.{faults}
-use Rattle.safl_net.specs.Arranged.{IsInput, Each}
-use Rattle.safl_net.proofs.EachOf.{each_by_index, each_join, each_stands}
 use Rattle.safl_verilog.proofs.WholeNets.{IsUpdated, IsAssigned, HasPorts}
 use Rattle.safl_verilog.proofs.Decimals.{decimal_value, decimal_short}
 use Rattle.safl_verilog.proofs.Distinct.{Name, Has, Distinct, distinct_left, distinct_right, distinct_swap, distinct_apart, each_left, each_right}

@@ -1,18 +1,16 @@
 -- A text that is cut piece by piece.
+use Rattle.safl_vparse.proofs.Common.{Front, Token, TokenKind}
 use Rattle.std.proofs.Common.{◌≡◌, ℕ, ◌+◌, ◌-◌, ◌<◌, ◌≤◌, List, [], ◌∷◌, ◌++◌, length, take, drop, Some, None, Option, refl, sym, ap, subst, ◌∙◌}
 use Rattle.std.proofs.Common.{arith, append_assoc, length-append, length-drop, drop-drop}
 use Rattle.std.proofs.Math.Seq.{take-append_seam, drop-append_seam}
 use Rattle.std.proofs.Math.ListN.{drop_of_length-le}
 use Rattle.std.proofs.lemmas.List.{append-nil, map-append}
-use Rattle.safl_verilog.specs.declared.token.Token.{Token}
-use Rattle.safl_verilog.specs.declared.token.TokenKind.{TokenKind}
 use Rattle.safl_verilog.specs.Tokens.{VerilogPiece, Blank, Line, Block, Lexeme, piece_text}
 use Rattle.safl_verilog.specs.Tokens.{text_of_all, StandsInVerilog, StandAll, VerilogTerminal, tokens_from, HasVerilogTokens, HasVerilogLexicalFault}
 use Rattle.safl_verilog.specs.Pieces.{first_piece}
 use Rattle.safl_verilog.proofs.Found.{Cut, piece_found}
 use Rattle.safl_verilog.proofs.PrintedStands.{text_append, stand_append}
 use Rattle.safl_verilog.proofs.Texts.{stuck, no_empty}
-use Rattle.safl_vparse.specs.declared.front.Front.{Front}
 use Rattle.safl_vparse.specs.declared.front.Front.TheVariants as fronts
 use Rattle.safl_vparse.specs.Fronts.{measured, IsCutUpTo}
 use Rattle.safl_vparse.specs.Shown.{shown_token, shown_all}

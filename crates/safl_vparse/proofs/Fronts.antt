@@ -1,25 +1,20 @@
 -- What is found at the front of a text.
+use Rattle.safl_vparse.proofs.Common.{Front, Keyword, Symbol, is_digit, measured, slice_rest}
 use Rattle.std.proofs.Common.{◌≡◌, ◌≢◌, ℕ, suc, ◌+◌, ◌-◌, ◌<◌, ◌≤◌, List, [], ◌∷◌, length, take, drop, get_or, Bool, true, false, cond, not, ◌==◌}
 use Rattle.std.proofs.Common.{◌&&◌, Some, None, Option, refl, sym, ap, ◌∙◌, arith, drop-cons, length-drop, drop-drop}
 use Rattle.std.proofs.lemmas.List.{take-append-drop, length-take-le}
 use Rattle.std.proofs.lemmas.Bool.{and_parts, le-leb, lt-leb, ne_eqb}
 use Rattle.std.proofs.lemmas.Bool.Decides.{Decides-eqb}
-use Rattle.safl_word.specs.Numerals.{is_digit}
 use Rattle.safl_word.specs.Tokens.{is_blank}
 use Rattle.safl_net.specs.Names.{is_start, is_part}
-use Rattle.safl_verilog.specs.declared.token.Keyword.{Keyword}
-use Rattle.safl_verilog.specs.declared.token.Symbol.{Symbol}
 use Rattle.safl_verilog.specs.declared.token.TokenKind.TheVariants as kinds
 use Rattle.safl_verilog.specs.Tokens.{keyword_text, symbol_text, stops, next_base}
 use Rattle.safl_verilog.specs.Pieces.{run, named, all_keywords, single_symbols, double_symbols, word_kind, first_bytes, first_word, sized_length}
 use Rattle.safl_verilog.specs.Pieces.{first_number, one_symbol, two_symbols, first_symbol, closing, one_more, first_comment, first_piece}
 use Rattle.safl_verilog.proofs.Runs.{run_of, named_none}
 use Rattle.safl_verilog.proofs.Symbols.{keyword_named}
-use Rattle.safl_vparse.specs.declared.front.Front.{Front}
 use Rattle.safl_vparse.specs.declared.front.Front.TheVariants as fronts
 use Rattle.safl_word.specs.Runs.{EndsRun, IsRun}
-use Rattle.safl_word.proofs.Lists.{slice_rest}
-use Rattle.safl_vparse.specs.Fronts.{measured}
 
 stops_of : (p : ℕ → Bool) (w : List ℕ) → EndsRun p w → stops p w ≡ true
 stops_of p [] h = refl

@@ -1,12 +1,10 @@
 -- Kinds of tokens are told apart as their codes are.
+use Rattle.safl_vparse.proofs.Common.{Keyword, Symbol, TokenKind}
 use Rattle.std.proofs.Common.{◌≡◌, ◌==◌, ◌<◌, ◌≤◌, [], ◌∷◌, refl, ◌∙◌, arith}
 use Rattle.safl_word.proofs.Booleans.{if_same}
 use Rattle.safl_grammar.specs.Sets.{Only, within}
-use Rattle.safl_verilog.specs.declared.token.Keyword.{Keyword}
 use Rattle.safl_verilog.specs.declared.token.Keyword.TheVariants as keywords
-use Rattle.safl_verilog.specs.declared.token.Symbol.{Symbol}
 use Rattle.safl_verilog.specs.declared.token.Symbol.TheVariants as symbols
-use Rattle.safl_verilog.specs.declared.token.TokenKind.{TokenKind}
 use Rattle.safl_verilog.specs.declared.token.TokenKind.TheVariants as kinds
 use Rattle.safl_verilog.specs.contracts.token.KeywordPartialEq.TheImpl as same_keywords
 use Rattle.safl_verilog.specs.contracts.token.SymbolPartialEq.TheImpl as same_symbols

@@ -1,6 +1,6 @@
 -- What the loops read.
+use Rattle.safl_vparse.proofs.Common.{Unexpected, shown_all}
 use Rattle.std.proofs.Common.{◌≡◌, ℕ, ◌<◌, Bool, true, List, length, Option, Ok}
-use Rattle.safl_grammar.specs.Syntax.{Unexpected}
 use Rattle.safl_grammar.specs.Reading.{Read, Reading, head_of, read_many}
 use Rattle.safl_grammar.proofs.Many.{fails_here}
 use Rattle.safl_grammar.proofs.Small.{eats_parses}
@@ -10,7 +10,6 @@ use Rattle.safl_verilog.specs.Reader.{read_another_id, read_another_decl, read_a
 use Rattle.safl_verilog.proofs.Grammar.{another_id_parses, another_decl_parses, another_stmt_parses}
 use Rattle.safl_vparse.specs.declared.parser.ReadError.{ReadError}
 use Rattle.safl_vparse.specs.declared.parser.ReadError.TheVariants as errors
-use Rattle.safl_vparse.specs.Shown.{shown_all}
 use Rattle.safl_vparse.specs.Gives.{Fails}
 
 -- each turn of a loop takes a token

@@ -1,14 +1,12 @@
 -- From the answer on tokens to the answer on a text.
+use Rattle.safl_vparse.proofs.Common.{RefusesBytes, VFault, shown_file}
 use Rattle.std.proofs.Common.{ℕ, List, Ok, Err}
 use Rattle.std.specs.Prelude.{Result, IfOk, IfErr}
 use Rattle.safl_verilog.specs.Tokens.{VerilogTerminal, HasVerilogTokens}
-use Rattle.safl_verilog.specs.declared.fault.VFault.{VFault}
 use Rattle.safl_verilog.specs.Reads.{HasFault, lexical, unexpected}
 use Rattle.safl_vparse.specs.declared.error.VErr.{VErr}
 use Rattle.safl_vparse.specs.declared.error.VErr.TheVariants as errors
 use Rattle.safl_vparse.specs.declared.file.File.{File}
-use Rattle.safl_vparse.specs.Shown.{shown_file}
-use Rattle.safl_vparse.specs.Fronts.{RefusesBytes}
 use Rattle.safl_vparse.specs.Parsed.{IsFileText, RefusesText, IsUnparsed, misspelled, ungrammatical, RefusesUnparsed, TokensAnswer}
 
 pub parsed : (text : List ℕ) (ts : List VerilogTerminal) (r : Result File VErr) → HasVerilogTokens text ts → TokensAnswer text ts r → IfOk r (λ f. IsFileText text (shown_file text f))

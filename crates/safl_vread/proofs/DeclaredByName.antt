@@ -1,15 +1,10 @@
 -- Declarations that are found by their names.
+use Rattle.safl_vread.proofs.Common.{Item, Sort, bytes_eq-Decides, bytes_flip, nat_tests, option_map}
 use Rattle.std.proofs.Common.{◌≡◌, ℕ, zero, suc, ◌+◌, List, [], ◌∷◌, length, get_or, map, position, Option, None, Some, Bool, true, false, not, cond}
 use Rattle.std.proofs.Common.{bytes_eq, refl, sym, ap, subst, ◌∙◌, arith, nat_lt, slice_get}
-use Rattle.std.specs.Option.{option_map}
 use Rattle.std.specs.List.{position_or_len}
-use Rattle.std.proofs.lemmas.Slice.Eq.{bytes_eq-Decides}
-use Rattle.std.proofs.lemmas.Bool.Decides.{nat_tests}
-use Rattle.safl_word.proofs.Lists.{bytes_flip}
-use Rattle.safl_verilog.specs.declared.token.Sort.{Sort}
 use Rattle.safl_verilog.specs.Files.{Declaration}
 use Rattle.safl_verilog.specs.Faults.{find, passes, is_signal, range_width}
-use Rattle.safl_vread.specs.declared.scope.Item.{Item}
 use Rattle.safl_vread.specs.Lists.{names_of}
 use Rattle.safl_vread.specs.Scopes.{ShowsDeclaration, Describes}
 

@@ -1,12 +1,11 @@
 -- Declared names are identifiers, and a text has more bytes than declarations.
+use Rattle.safl_vread.proofs.Common.{Each, IsFileText, each_join}
 use Rattle.std.proofs.Common.{◌≡◌, ℕ, zero, suc, ◌+◌, ◌≤◌, List, [], ◌∷◌, ◌++◌, length, Bool, true, false, cond, ◌==◌, Some, None, refl, sym, ap, subst, ◌∙◌, inl, inr, arith, length-append, slice_get}
 use Rattle.std.proofs.Common.{Option}
 use Rattle.std.proofs.lemmas.Bool.Decides.{nat_tests, Decides-eqb}
 use Rattle.safl_grammar.specs.Sets.{Only, within}
 use Rattle.safl_grammar.specs.Syntax.{turns}
 use Rattle.safl_net.specs.Names.{is_identifier}
-use Rattle.safl_net.specs.Arranged.{Each}
-use Rattle.safl_net.proofs.EachOf.{each_join}
 use Rattle.safl_verilog.specs.declared.token.Keyword.{Keyword}
 use Rattle.safl_verilog.specs.declared.token.Keyword.TheVariants as keywords
 use Rattle.safl_verilog.specs.declared.token.Symbol.{Symbol}
@@ -18,7 +17,6 @@ use Rattle.safl_verilog.specs.Grammar.{spot, decl, another_decl, file}
 use Rattle.safl_verilog.specs.Codes.{keyword_code, symbol_code, code_of, classed}
 use Rattle.safl_verilog.proofs.Classes.{identifier_at, identifier_class}
 use Rattle.safl_verilog.proofs.Distinct.{each_left, each_right, each_at}
-use Rattle.safl_vparse.specs.Parsed.{IsFileText}
 
 -- ---- tokens that are identifiers
 

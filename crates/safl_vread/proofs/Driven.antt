@@ -1,22 +1,16 @@
 -- What drives declared names gives them what they need, and makes the signals of the netlist.
+use Rattle.safl_vread.proofs.Common.{AreNumbers, Driver, Op, Operands, Sort, slice_get_within, slice_index}
 use Rattle.std.proofs.Common.{◌≡◌, ℕ, List, [], ◌∷◌, length, map, Option, Some, true, false, refl, sym, ap, subst, ◌∙◌, slice_get}
-use Rattle.std.specs.Prelude.{slice_index}
-use Rattle.std.proofs.lemmas.Option.{slice_get_within}
 use Rattle.safl_net.specs.Netlist.{Kind, Reg, Wire}
-use Rattle.safl_net.specs.declared.cell.Op.{Op}
-use Rattle.safl_verilog.specs.declared.token.Sort.{Sort}
 use Rattle.safl_verilog.specs.declared.token.Sort.TheVariants as sorts
 use Rattle.safl_verilog.specs.Files.{Spot, RightSide, Literal, Plain, Inverted, Binary, Choice, Joined, Slice, Declaration, Statement, File}
 use Rattle.safl_verilog.specs.Faults.{is_plain, range_width, literal_value, operation, operands, assigned, missing_faults}
 use Rattle.safl_verilog.specs.Netlists.{signal_number, signal_kind, register_of, driven, shown_signal, signal_of}
-use Rattle.safl_vread.specs.declared.driver.Operands.{Operands}
 use Rattle.safl_vread.specs.declared.driver.Operands.TheVariants as operand
-use Rattle.safl_vread.specs.declared.driver.Driver.{Driver}
 use Rattle.safl_vread.specs.declared.driver.Driver.TheVariants as driver
 use Rattle.safl_vread.specs.Drivers.{IsAt, AreAt, places_of, Drives, HasDrivers, open_faults}
 use Rattle.safl_vread.proofs.NotDriven.{same_faults}
 use Rattle.safl_vread.proofs.StatementsDrive.{found_name, at_within}
-use Rattle.safl_vread.specs.Signals.{AreNumbers}
 use Rattle.safl_vread.specs.Nets.{Fits, AllFit, kind_with, signal_with, shown_with}
 
 -- ---- outputs show a name alone

@@ -1,24 +1,15 @@
 -- The faults of one statement, and what it drives.
+use Rattle.safl_vread.proofs.Common.{Driver, Item, Op, Operands, VFault, first, flat_map, implied, is_none, literal_word}
 use Rattle.std.proofs.Common.{◌≡◌, ℕ, ◌<◌, List, [], ◌++◌, length, get_or, None, Some, Ok, Bool, true, false, not, cond, ◌&&◌, ◌||◌, ◌==◌, bytes_eq, refl, sym, ap, ◌∙◌, arith, slice_get}
-use Rattle.std.specs.Prelude.{is_none}
-use Rattle.std.specs.List.{flat_map}
 use Rattle.std.proofs.lemmas.Option.{slice_get-get_or, slice_get_within}
 use Rattle.std.proofs.lemmas.Bool.{and_parts, eq-eqb, ne_eqb}
 use Rattle.safl_word.specs.Words.{Word}
-use Rattle.safl_word.proofs.Booleans.{implied}
-use Rattle.safl_net.specs.declared.cell.Op.{Op}
 use Rattle.safl_verilog.specs.declared.fault.VRule.TheVariants as rules
-use Rattle.safl_verilog.specs.declared.fault.VFault.{VFault}
 use Rattle.safl_verilog.specs.Files.{Spot, RightSide, Declaration, Statement, Assign, Always}
 use Rattle.safl_verilog.specs.Faults.{at, find, where_not, passes, is_clock, is_reset, is_target, is_signal, is_reg, is_output, is_plain}
 use Rattle.safl_verilog.specs.Faults.{is_literal, literal_width, literal_value, width_declared, expression_width, operation, operands, assigned, updated}
 use Rattle.safl_verilog.specs.Faults.{may_be_assigned, unfit_faults, width_faults, assign_faults}
-use Rattle.safl_vparse.specs.Numbers.{literal_word}
-use Rattle.safl_vread.specs.declared.scope.Item.{Item}
-use Rattle.safl_vread.specs.declared.driver.Operands.{Operands}
-use Rattle.safl_vread.specs.declared.driver.Driver.{Driver}
 use Rattle.safl_vread.specs.declared.driver.Driver.TheVariants as driver
-use Rattle.safl_vread.specs.Firsts.{first}
 use Rattle.safl_vread.specs.Drivers.{Found, IsAt, AreAt, is_open, places_of, HasDrivers, Sets, register_faults, Names}
 use Rattle.safl_vread.proofs.FirstOfSeveral.{first_some}
 use Rattle.safl_vread.proofs.StatementsDrive.{found_name, open_target, open_register, assigned_here, updated_here, width_found}

@@ -1,17 +1,12 @@
 -- The faults of a whole file.
+use Rattle.safl_vread.proofs.Common.{File, VErr, VFault, declared_names, flat_map, later_faults}
 use Rattle.std.proofs.Common.{◌≡◌, ℕ, List, [], ◌∷◌, ◌++◌, None, Some, Result, Ok, Err, append_assoc, refl, sym, ap, subst, ◌∙◌}
 use Rattle.std.specs.Prelude.{IfErr}
-use Rattle.std.specs.List.{flat_map}
-use Rattle.safl_verilog.specs.declared.fault.VFault.{VFault}
-use Rattle.safl_verilog.specs.Files.{File}
 use Rattle.safl_verilog.specs.Faults.{faults, all_number_faults, repeat_faults, all_port_faults, all_statement_faults, missing_faults}
-use Rattle.safl_verilog.specs.FaultParts.{declared_names}
 use Rattle.safl_verilog.specs.Reads.{broken}
 use Rattle.safl_vparse.specs.Parsed.{IsFileText, RefusesText}
-use Rattle.safl_vparse.specs.declared.error.VErr.{VErr}
 use Rattle.safl_vparse.specs.declared.error.VErr.TheVariants as errors
 use Rattle.safl_vread.specs.Firsts.{first, RefusesFirst, Answers}
-use Rattle.safl_vread.specs.Parts.{later_faults}
 use Rattle.safl_vread.proofs.FirstOfSeveral.{first_some}
 
 pub empty : (fs : List VFault) → None ≡ first fs → fs ≡ []

@@ -1,9 +1,7 @@
 -- First faults of lists that are made of several.
+use Rattle.safl_vread.proofs.Common.{VFault, first, flat_map}
 use Rattle.std.proofs.Common.{◌≡◌, ℕ, ◌+◌, ◌<◌, ◌≤◌, List, [], ◌∷◌, ◌++◌, length, drop, get_or, map, Option, None, Some, true, false, is_some, refl, sym, ◌∙◌, drop-cons, add-one}
 use Rattle.std.proofs.lemmas.List.{drop_all}
-use Rattle.std.specs.List.{flat_map}
-use Rattle.safl_verilog.specs.declared.fault.VFault.{VFault}
-use Rattle.safl_vread.specs.Firsts.{first}
 
 -- a list without a fault is followed by the next one, and a fault comes before what follows
 pub first_none : (a b : List VFault) → None ≡ first a → first (a ++ b) ≡ first b

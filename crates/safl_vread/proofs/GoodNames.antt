@@ -1,32 +1,23 @@
 -- The names of signals and outputs are good, so that none is refused.
+use Rattle.safl_vread.proofs.Common.{GoodNames, IsFileText, Sort, and_parts, append_empty, declared_names, each_found, flat_map}
+use Rattle.safl_vread.proofs.Common.{header_faults, later_faults, nat_tests, port_faults, slice_index}
 use Rattle.std.proofs.Common.{◌≡◌, ◌≢◌, ℕ, zero, suc, ◌<◌, List, [], ◌∷◌, ◌++◌, length, Bool, true, false, not, ◌&&◌, ◌||◌, ◌==◌, nat_le, Option, Some, codes, refl, sym, ap, ◌∙◌, arith}
-use Rattle.std.specs.Prelude.{slice_index}
 use Rattle.std.specs.Str.{IsUtf8, IsAscii}
 use Rattle.std.proofs.lemmas.Str.{IsUtf8-from_ascii}
-use Rattle.std.proofs.lemmas.Bool.{and_parts}
-use Rattle.std.proofs.lemmas.Bool.Decides.{nat_tests}
 use Rattle.safl_net.specs.Names.{is_start, is_part, are_parts, is_identifier, is_reserved, is_good}
 use Rattle.safl_verilog.specs.declared.token.Keyword.TheVariants as keywords
-use Rattle.safl_verilog.specs.declared.token.Sort.{Sort}
 use Rattle.safl_verilog.specs.declared.token.Sort.TheVariants as sorts
 use Rattle.safl_verilog.specs.declared.fault.VRule.TheVariants as rules
 use Rattle.safl_verilog.specs.Tokens.{IsIdentifier}
 use Rattle.safl_verilog.specs.Files.{Declaration, File}
 use Rattle.safl_verilog.specs.Faults.{at, find, passes, where_not, is_clock, is_reset, is_input, is_output, is_reg, is_wire, has_bit, has_ports}
 use Rattle.safl_verilog.specs.Faults.{range_width, faults, all_number_faults, repeat_faults}
-use Rattle.safl_verilog.specs.FaultParts.{declared_names, header_faults, port_faults}
 use Rattle.safl_verilog.specs.Faults.{all_port_faults, all_statement_faults, missing_faults}
-use Rattle.std.specs.List.{flat_map}
-use Rattle.safl_word.proofs.Lists.{append_empty}
 use Rattle.safl_word.proofs.Naturals.{short_enough}
 use Rattle.safl_verilog.proofs.Distinct.{other_name, same_name, each_at}
-use Rattle.safl_verilog.proofs.Lookups.{each_found}
-use Rattle.safl_vparse.specs.Parsed.{IsFileText}
-use Rattle.safl_vread.specs.Parts.{later_faults}
 use Rattle.safl_vread.proofs.FaultsOfFile.{parted}
 use Rattle.safl_vread.proofs.Widths.{kept_true}
 use Rattle.safl_vread.proofs.StatementsDrive.{distinct_names}
-use Rattle.safl_vread.specs.Nets.{GoodNames}
 use Rattle.safl_vread.proofs.DeclaredNames.{declared_identifier}
 
 -- ---- identifiers

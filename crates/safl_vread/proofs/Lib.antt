@@ -1,3 +1,4 @@
+mod Common
 pub mod FirstOfSeveral
 pub mod Zeros
 pub mod NamesLookedUp

@@ -1,13 +1,11 @@
 -- Names that are looked up, and names that stand twice.
+use Rattle.safl_vread.proofs.Common.{Spot, bytes_flip, first}
 use Rattle.std.proofs.Common.{◌≡◌, ℕ, zero, suc, ◌+◌, ◌<◌, List, [], ◌∷◌, ◌++◌, length, take, drop, get_or, map, position, Some, Bool, true, false}
 use Rattle.std.proofs.Common.{not, cond, ◌||◌, Bor, bytes_eq, refl, sym, ap, ◌∙◌, drop-cons, add-one}
 use Rattle.std.specs.List.{list_any, position_or_len}
 use Rattle.std.proofs.lemmas.List.{drop-map, length-map}
-use Rattle.safl_word.proofs.Lists.{bytes_flip}
 use Rattle.safl_verilog.specs.declared.fault.VRule.TheVariants as rules
-use Rattle.safl_verilog.specs.Files.{Spot}
 use Rattle.safl_verilog.specs.Faults.{at, where_not, among, repeat_faults}
-use Rattle.safl_vread.specs.Firsts.{first}
 use Rattle.safl_vread.specs.Lists.{shown_keys, bytes_of_all, has, with_new}
 
 -- ---- keys of a set

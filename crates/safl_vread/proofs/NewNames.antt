@@ -1,20 +1,15 @@
 -- Names of signals and outputs that are new.
+use Rattle.safl_vread.proofs.Common.{Driver, IsOrder, Netlist, Signal, Sort, declared_place, names, place_at, signals_of}
 use Rattle.std.proofs.Common.{◌≡◌, ◌≢◌, ℕ, zero, suc, ◌+◌, ◌<◌, ◌≤◌, List, [], ◌∷◌, ◌++◌, length, get_or, map, take, Bool, true, false, cond, ◌||◌}
 use Rattle.std.proofs.Common.{◌&&◌, bytes_eq, Option, Some, refl, sym, ap, subst, ◌∙◌, arith, slice_get}
 use Rattle.std.proofs.lemmas.Option.{slice_get-get_or, slice_get_within}
 use Rattle.std.proofs.lemmas.Bool.{or_right}
-use Rattle.safl_net.specs.Netlist.{Netlist, Signal}
 use Rattle.safl_net.specs.Names.{is_good, named_signal, named_output, has_name}
-use Rattle.safl_verilog.specs.declared.token.Sort.{Sort}
 use Rattle.safl_verilog.specs.declared.token.Sort.TheVariants as sorts
 use Rattle.safl_verilog.specs.Files.{Declaration}
 use Rattle.safl_verilog.specs.Faults.{is_input, is_output, is_reg, is_wire, is_signal}
-use Rattle.safl_verilog.specs.Netlists.{signals_of, declared_place}
 use Rattle.safl_verilog.proofs.Distinct.{Distinct, other_name, each_at}
-use Rattle.safl_verilog.proofs.Lookups.{names, place_at}
-use Rattle.safl_vread.specs.declared.driver.Driver.{Driver}
 use Rattle.safl_vread.specs.declared.driver.Driver.TheVariants as driver
-use Rattle.safl_vread.specs.Signals.{IsOrder}
 use Rattle.safl_vread.specs.Nets.{GoodNames, opened, signal_in, signal_at, signals_at, shown_with, output_with}
 use Rattle.safl_vread.proofs.SignalNames.{are_signals}
 use Rattle.safl_vread.proofs.Orders.{placed}

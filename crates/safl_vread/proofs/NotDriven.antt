@@ -1,16 +1,10 @@
 -- Names that are not driven.
+use Rattle.safl_vread.proofs.Common.{Driver, Sort, VFault, first, flat_map, length-map, slice_get-get_or, slice_get-map}
 use Rattle.std.proofs.Common.{◌≡◌, ℕ, ◌+◌, ◌<◌, List, length, get_or, map, Option, None, Some, true, false, ◌||◌, is_some, refl, sym, ap, ◌∙◌, arith, slice_get}
-use Rattle.std.specs.List.{flat_map}
-use Rattle.std.proofs.lemmas.Option.{slice_get-get_or, slice_get-map}
-use Rattle.std.proofs.lemmas.List.{length-map}
-use Rattle.safl_verilog.specs.declared.token.Sort.{Sort}
 use Rattle.safl_verilog.specs.declared.token.Sort.TheVariants as sorts
-use Rattle.safl_verilog.specs.declared.fault.VFault.{VFault}
 use Rattle.safl_verilog.specs.Files.{Declaration, Statement}
 use Rattle.safl_verilog.specs.Faults.{is_reg, is_wire, is_output, missing_faults}
-use Rattle.safl_vread.specs.declared.driver.Driver.{Driver}
 use Rattle.safl_vread.specs.declared.driver.Driver.TheVariants as driver
-use Rattle.safl_vread.specs.Firsts.{first}
 use Rattle.safl_vread.specs.Drivers.{Drives, HasDrivers, open_faults}
 use Rattle.safl_vread.proofs.FirstOfSeveral.{first_from, goes_on, stops}
 

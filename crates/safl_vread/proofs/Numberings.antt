@@ -1,18 +1,11 @@
 -- The numbers of signals, by the places of their declarations.
+use Rattle.safl_vread.proofs.Common.{AreNumbers, Distinct, IsOrder, each_at, each_found, eqb-true, length-set, names, nat_tests, place_at}
+use Rattle.safl_vread.proofs.Common.{slice_get_within, slice_index, without_statements}
 use Rattle.std.proofs.Common.{◌≡◌, ◌≢◌, ℕ, ◌+◌, ◌<◌, ◌≤◌, List, [], length, get_or, set, Bool, true, false, Some, ◌==◌, refl, sym, ap, ◌∙◌, arith, slice_get, get_or-set_same, get_or-set_other}
-use Rattle.std.specs.Prelude.{slice_index}
-use Rattle.std.proofs.lemmas.List.{length-set}
-use Rattle.std.proofs.lemmas.Bool.Decides.{nat_tests}
-use Rattle.std.proofs.lemmas.Option.{slice_get_within}
-use Rattle.std.proofs.lemmas.Bool.{eqb-true}
 use Rattle.safl_verilog.specs.Files.{Declaration}
 use Rattle.safl_verilog.specs.Faults.{find, is_signal}
 use Rattle.safl_verilog.specs.Netlists.{signals_of, declared_place, signal_number}
-use Rattle.safl_verilog.proofs.Distinct.{Distinct, each_at}
-use Rattle.safl_verilog.proofs.Lookups.{names, each_found, place_at}
-use Rattle.safl_vread.specs.Scopes.{without_statements}
 use Rattle.safl_vread.proofs.WholeFiles.{found_signal, found_place}
-use Rattle.safl_vread.specs.Signals.{IsOrder, AreNumbers}
 use Rattle.safl_vread.proofs.SignalNames.{signals_distinct}
 use Rattle.safl_vread.proofs.Orders.{placed, ordered, order_long}
 

@@ -1,12 +1,8 @@
 -- The order of signals.
+use Rattle.safl_vread.proofs.Common.{Sort, filter, option_map, signals_of, slice_get-get_or, slice_get-map, slice_get_within}
 use Rattle.std.proofs.Common.{◌≡◌, ℕ, zero, suc, ◌+◌, ◌<◌, List, [], ◌∷◌, ◌++◌, length, get_or, map, drop, true, false, cond, Option, Some, refl, sym, ap, ◌∙◌, arith, append_assoc, slice_get}
-use Rattle.std.specs.Prelude.{filter}
 use Rattle.std.proofs.lemmas.List.{map-append, length-map, drop_more}
-use Rattle.std.proofs.lemmas.Option.{slice_get-get_or, slice_get-map, slice_get_within}
-use Rattle.std.specs.Option.{option_map}
-use Rattle.safl_verilog.specs.declared.token.Sort.{Sort}
 use Rattle.safl_verilog.specs.Files.{Declaration}
-use Rattle.safl_verilog.specs.Netlists.{signals_of}
 use Rattle.safl_vread.specs.Signals.{is_of, IsOrder}
 
 -- ---- a place of the order, and the declaration there

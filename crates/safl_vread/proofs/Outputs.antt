@@ -1,18 +1,12 @@
 -- Outputs, one after the other.
+use Rattle.safl_vread.proofs.Common.{Distinct, Driver, Netlist, Signal, filter, is_output, names, option_map}
 use Rattle.std.proofs.Common.{◌≡◌, ℕ, suc, ◌+◌, ◌<◌, ◌≤◌, List, [], ◌∷◌, ◌++◌, length, get_or, map, drop, Some, Bool, true, false, cond, refl, sym}
 use Rattle.std.proofs.Common.{ap, ◌∙◌, arith, append_assoc, slice_get, length-append}
-use Rattle.std.specs.Prelude.{filter}
 use Rattle.std.proofs.lemmas.List.{drop_more, drop_all, append-nil}
-use Rattle.std.specs.Option.{option_map}
 use Rattle.std.proofs.lemmas.Option.{slice_get-get_or, slice_get-map}
 use Rattle.safl_net.specs.Names.{named_output}
-use Rattle.safl_net.specs.Netlist.{Netlist, Signal}
 use Rattle.safl_verilog.specs.Files.{Declaration, File}
-use Rattle.safl_verilog.specs.Faults.{is_output}
 use Rattle.safl_verilog.specs.Netlists.{output_of}
-use Rattle.safl_vread.specs.declared.driver.Driver.{Driver}
-use Rattle.safl_verilog.proofs.Distinct.{Distinct}
-use Rattle.safl_verilog.proofs.Lookups.{names}
 use Rattle.safl_vread.proofs.NewNames.{output_unnamed}
 use Rattle.safl_vread.specs.Nets.{shown_with, output_with, outputs_with, with_outputs}
 

@@ -1,16 +1,10 @@
 -- The names of signals are all different, and there are no more of them than declarations.
+use Rattle.safl_vread.proofs.Common.{Each, Sort, each_join, filter, map-append, names, signals_of}
 use Rattle.std.proofs.Common.{◌≡◌, suc, ◌+◌, ◌≤◌, List, [], ◌∷◌, ◌++◌, length, Bool, true, false, cond, ◌&&◌, ◌||◌, refl, sym, ap, subst, ◌∙◌, inl, inr, arith, length-append}
-use Rattle.std.specs.Prelude.{filter}
-use Rattle.std.proofs.lemmas.List.{map-append}
-use Rattle.safl_verilog.specs.declared.token.Sort.{Sort}
 use Rattle.safl_verilog.specs.declared.token.Sort.TheVariants as sorts
 use Rattle.safl_verilog.specs.Files.{Declaration}
 use Rattle.safl_verilog.specs.Faults.{is_data, is_input, is_reg, is_wire, is_signal}
-use Rattle.safl_net.specs.Arranged.{Each}
-use Rattle.safl_net.proofs.EachOf.{each_join}
-use Rattle.safl_verilog.specs.Netlists.{signals_of}
 use Rattle.safl_verilog.proofs.Distinct.{Name, Has, Distinct, Apart, has_either, distinct_join}
-use Rattle.safl_verilog.proofs.Lookups.{names}
 
 has_filtered : (p : Declaration → Bool) (ds : List Declaration) (w : Name) → Has w (names (filter p ds)) → Has w (names ds)
 has_filtered p [] w h = h

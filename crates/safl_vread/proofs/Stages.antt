@@ -1,16 +1,11 @@
 -- The net between its stages.
+use Rattle.safl_vread.proofs.Common.{Driver, Sort, option_map, slice_get-get_or, slice_get-map, slice_index, widths_of}
 use Rattle.std.proofs.Common.{◌≡◌, ℕ, zero, suc, ◌+◌, ◌<◌, ◌≤◌, List, [], ◌∷◌, ◌++◌, length, get_or, map, take, Option, Some, refl, sym, ap, subst, ◌∙◌, arith, slice_get}
-use Rattle.std.specs.Prelude.{slice_index}
 use Rattle.std.proofs.lemmas.List.{length-take-le, map-append, length-map, take_more}
-use Rattle.std.proofs.lemmas.Option.{slice_get-get_or, slice_get-map}
-use Rattle.std.specs.Option.{option_map}
 use Rattle.safl_net.specs.Netlist.{Netlist, Signal, Kind, Input, open_kind}
 use Rattle.safl_net.specs.Making.{with_signal, set_kind, with_kind, kind_in, kind_at}
-use Rattle.safl_verilog.specs.declared.token.Sort.{Sort}
 use Rattle.safl_verilog.specs.Files.{Declaration}
 use Rattle.safl_verilog.specs.Faults.{range_width}
-use Rattle.safl_vread.specs.Lists.{widths_of}
-use Rattle.safl_vread.specs.declared.driver.Driver.{Driver}
 use Rattle.safl_vread.proofs.DeclaredByName.{found_at}
 use Rattle.safl_vread.specs.Nets.{Fits, AllFit, kind_with, opened, signal_with, signal_in, signal_at, signals_at, partly}
 

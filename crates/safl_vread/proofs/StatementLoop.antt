@@ -1,14 +1,8 @@
 -- Statements one after the other.
+use Rattle.safl_vread.proofs.Common.{Driver, VFault, append_empty, declared_names, first, flat_map, map-append}
 use Rattle.std.proofs.Common.{◌≡◌, ℕ, ◌+◌, ◌<◌, List, [], ◌∷◌, ◌++◌, length, get_or, set, map, take, drop, Some, Ok, Err, sym, ap, subst, ◌∙◌, drop-cons, add-one}
-use Rattle.std.specs.List.{flat_map}
-use Rattle.std.proofs.lemmas.List.{map-append}
-use Rattle.safl_word.proofs.Lists.{append_empty}
-use Rattle.safl_verilog.specs.declared.fault.VFault.{VFault}
 use Rattle.safl_verilog.specs.Files.{Declaration, Statement}
 use Rattle.safl_verilog.specs.Faults.{repeat_faults, statement_faults, all_statement_faults, stated_number_faults}
-use Rattle.safl_verilog.specs.FaultParts.{declared_names}
-use Rattle.safl_vread.specs.declared.driver.Driver.{Driver}
-use Rattle.safl_vread.specs.Firsts.{first}
 use Rattle.safl_vread.specs.Drivers.{HasDrivers, Steps}
 use Rattle.safl_vread.proofs.FirstOfSeveral.{first_some}
 use Rattle.safl_vread.proofs.NamesLookedUp.{take_next}

@@ -1,25 +1,18 @@
 -- Statements, and what they drive.
+use Rattle.safl_vread.proofs.Common.{Driver, Sort, VFault, declared_names, declared_place, length-set, slice_get_within, widths_of}
 use Rattle.std.proofs.Common.{◌≡◌, ℕ, zero, suc, ◌<◌, ◌≤◌, List, [], ◌∷◌, ◌++◌, length, get_or, set, map, Option, None, Some, Bool, true, false, not}
 use Rattle.std.specs.Prelude.{is_none}
 use Rattle.std.proofs.Common.{cond, ◌||◌, bytes_eq, refl, sym, ap, subst, ◌∙◌, inl, inr, arith, slice_get}
 use Rattle.std.specs.Prelude.{slice_index, ◌⊎◌}
 use Rattle.std.proofs.lemmas.Slice.Eq.{bytes_eq-Decides}
-use Rattle.std.proofs.lemmas.Option.{slice_get_within}
-use Rattle.std.proofs.lemmas.List.{length-set}
 use Rattle.safl_word.proofs.Lists.{bytes_apart}
 use Rattle.safl_word.proofs.Lexemes.{clash}
-use Rattle.safl_verilog.specs.declared.token.Sort.{Sort}
 use Rattle.safl_verilog.specs.declared.token.Sort.TheVariants as sorts
-use Rattle.safl_verilog.specs.declared.fault.VFault.{VFault}
 use Rattle.safl_verilog.specs.Files.{Spot, RightSide, Declaration, Statement, Assign, Always}
 use Rattle.safl_verilog.specs.Faults.{find, among, where_not, repeat_faults, is_target, is_reg, is_wire, is_output, range_width, width_declared, assigned, updated}
-use Rattle.safl_verilog.specs.FaultParts.{declared_names}
 use Rattle.safl_verilog.proofs.Distinct.{Name, Has, Distinct, same_name}
 use Rattle.safl_verilog.proofs.Lookups.{spot_names, is_among, place_at}
-use Rattle.safl_verilog.specs.Netlists.{declared_place}
-use Rattle.safl_vread.specs.declared.driver.Driver.{Driver}
 use Rattle.safl_vread.specs.declared.driver.Driver.TheVariants as driver
-use Rattle.safl_vread.specs.Lists.{widths_of}
 use Rattle.safl_vread.specs.Drivers.{AreAt, is_open, Drives, HasDrivers, Sets, target_of}
 use Rattle.safl_vread.proofs.DeclaredByName.{found_at}
 

@@ -1,18 +1,14 @@
 -- Widths of signals, so that cells and next signals are never refused.
+use Rattle.safl_vread.proofs.Common.{AreNumbers, Driver, op_width, option_map, slice_index}
 use Rattle.std.proofs.Common.{◌≡◌, ℕ, zero, suc, ◌≤◌, List, [], ◌∷◌, length, get_or, map, Option, None, Some, unwrap_or, refl, sym, ap, ◌∙◌, arith, slice_get}
-use Rattle.std.specs.Prelude.{slice_index}
-use Rattle.std.specs.Option.{option_map}
 use Rattle.std.proofs.lemmas.Option.{slice_get-get_or, slice_get-map, slice_get_within}
 use Rattle.safl_net.specs.Netlist.{Netlist, Signal, width_of}
 use Rattle.safl_net.specs.Netlist as Netlist
-use Rattle.safl_net.specs.Widths.{op_width}
 use Rattle.safl_verilog.specs.Files.{Spot, Declaration, Statement}
 use Rattle.safl_verilog.specs.Faults.{range_width, width_in, operation, operands}
 use Rattle.safl_verilog.specs.Faults as Faults
-use Rattle.safl_vread.specs.declared.driver.Driver.{Driver}
 use Rattle.safl_vread.specs.declared.driver.Driver.TheVariants as driver
 use Rattle.safl_vread.specs.Drivers.{AreAt, places_of, Drives, HasDrivers}
-use Rattle.safl_vread.specs.Signals.{AreNumbers}
 use Rattle.safl_vread.specs.Nets.{IsSignalAt, AreSignalsAt, width_at, Suits, AllSuit, SuitsIn, signal_in, signal_at, signals_at, partly}
 
 -- ---- what drives a name suits it

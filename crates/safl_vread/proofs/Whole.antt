@@ -1,28 +1,18 @@
 -- The whole net is the netlist of the file.
+use Rattle.safl_vread.proofs.Common.{AreNumbers, Driver, IsFileText, IsOrder, Reads, Sort, append_empty, declared_names, each_at, filter}
+use Rattle.safl_vread.proofs.Common.{flat_map, later_faults, slice_get-get_or, slice_get_within}
 use Rattle.std.proofs.Common.{◌≡◌, ℕ, ◌<◌, List, [], ◌∷◌, ◌++◌, length, get_or, map, cond, Option, Some, codes, refl, sym, ap, subst, ◌∙◌, arith, slice_get}
-use Rattle.std.specs.Prelude.{filter}
-use Rattle.std.specs.List.{flat_map}
-use Rattle.std.proofs.lemmas.Option.{slice_get-get_or, slice_get_within}
-use Rattle.safl_word.proofs.Lists.{append_empty}
 use Rattle.safl_net.specs.Netlist.{Netlist, Signal, place}
 use Rattle.safl_net.specs.Whole.{IsWhole}
 use Rattle.safl_net.proofs.EachOf.{no_parts}
-use Rattle.safl_verilog.specs.declared.token.Sort.{Sort}
 use Rattle.safl_verilog.specs.declared.token.Sort.TheVariants as sorts
 use Rattle.safl_verilog.specs.Files.{Declaration, File}
 use Rattle.safl_verilog.specs.Faults.{is_output, range_width, faults, missing_faults, all_number_faults, repeat_faults, all_port_faults, all_statement_faults}
-use Rattle.safl_verilog.specs.FaultParts.{declared_names}
 use Rattle.safl_verilog.specs.Netlists.{netlist, signals_of, signal_of, output_of}
-use Rattle.safl_verilog.specs.Reads.{Reads}
-use Rattle.safl_verilog.proofs.Distinct.{each_at}
-use Rattle.safl_vparse.specs.Parsed.{IsFileText}
-use Rattle.safl_vread.specs.declared.driver.Driver.{Driver}
 use Rattle.safl_vread.specs.declared.driver.Driver.TheVariants as driver
 use Rattle.safl_vread.specs.Drivers.{Drives, HasDrivers}
-use Rattle.safl_vread.specs.Parts.{later_faults}
 use Rattle.safl_vread.proofs.FaultsOfFile.{parted}
 use Rattle.safl_vread.proofs.WholeFiles.{reads_whole}
-use Rattle.safl_vread.specs.Signals.{IsOrder, AreNumbers}
 use Rattle.safl_vread.specs.Nets.{Fits, AllFit, AllSuit, signal_in, signal_at, signals_at, shown_with, outputs_with, with_outputs}
 use Rattle.safl_vread.proofs.Suiting.{all_suit}
 use Rattle.safl_vread.proofs.Driven.{all_fit, signal_is, shown_is}

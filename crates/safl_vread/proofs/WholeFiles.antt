@@ -1,34 +1,23 @@
 -- What a file without faults reads as is whole.
+use Rattle.safl_vread.proofs.Common.{Each, Reads, Sort, and_parts, append_empty, bytes_eq-Decides, declared_names, eqb-true, filter}
+use Rattle.safl_vread.proofs.Common.{flat_map, header_faults, implied, is_none, later_faults, nat_tests, port_faults}
 use Rattle.std.proofs.Common.{◌≡◌, ℕ, zero, suc, ◌+◌, List, [], ◌∷◌, ◌++◌, map, Option, None, Some, IsSome, Bool, true, false, not, cond, ◌&&◌, ◌||◌}
-use Rattle.std.specs.Prelude.{is_none}
 use Rattle.std.proofs.Common.{◌==◌, bytes_eq, codes, refl, sym, ap, subst, ◌∙◌, inl, inr, arith, slice_get}
-use Rattle.std.specs.Prelude.{filter}
-use Rattle.std.specs.List.{flat_map}
-use Rattle.std.proofs.lemmas.Bool.{and_parts, eqb-true}
-use Rattle.std.proofs.lemmas.Bool.Decides.{nat_tests}
-use Rattle.std.proofs.lemmas.Slice.Eq.{bytes_eq-Decides}
-use Rattle.safl_word.proofs.Lists.{append_empty}
-use Rattle.safl_word.proofs.Booleans.{implied}
 use Rattle.safl_net.specs.Netlist.{Netlist, Signal, Input, Reg, Wire, IsSet, AllSet, place, output_place}
 use Rattle.safl_net.specs.Netlist as Netlist
 use Rattle.safl_net.specs.Making.{kind_in}
 use Rattle.safl_net.specs.Whole.{IsWhole, HasStart, HasDone}
-use Rattle.safl_verilog.specs.declared.token.Sort.{Sort}
 use Rattle.safl_verilog.specs.declared.token.Sort.TheVariants as sorts
 use Rattle.safl_verilog.specs.declared.fault.VRule.TheVariants as rules
 use Rattle.safl_verilog.specs.Files.{Spot, RightSide, Literal, Plain, Inverted, Binary, Choice, Joined, Slice, Declaration, Statement, Assign, Always, File}
 use Rattle.safl_verilog.specs.Faults.{at, find, where_not, passes, is_data, is_input, is_output, is_reg, is_wire, is_target, is_signal}
 use Rattle.safl_verilog.specs.Faults.{is_plain, range_width, width_declared, expression_width, operands, assigned, updated, faults, has_bit, has_ports}
 use Rattle.safl_verilog.specs.Faults.{repeat_faults, all_number_faults, all_port_faults}
-use Rattle.safl_verilog.specs.FaultParts.{declared_names, header_faults, port_faults}
 use Rattle.safl_verilog.specs.Faults.{all_statement_faults, statement_faults, assign_faults, may_be_assigned, unfit_faults, width_faults}
 use Rattle.safl_verilog.specs.Faults.{missing_faults}
 use Rattle.safl_verilog.specs.Netlists.{netlist, signals_of, signal_of, signal_kind, register_of, driven, output_of, shown_signal, declared_place, signal_number}
-use Rattle.safl_verilog.specs.Reads.{Reads}
-use Rattle.safl_net.specs.Arranged.{Each}
 use Rattle.safl_net.proofs.EachOf.{each_join, each_stands, no_parts}
 use Rattle.safl_verilog.proofs.Distinct.{Name, Has, Distinct, each_at, each_mapped, other_name}
-use Rattle.safl_vread.specs.Parts.{later_faults}
 use Rattle.safl_vread.proofs.FaultsOfFile.{parted}
 use Rattle.safl_vread.proofs.Widths.{kept_true}
 use Rattle.safl_vread.proofs.StatementsDrive.{found_name, distinct_names, width_found}

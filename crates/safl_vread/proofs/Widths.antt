@@ -1,17 +1,10 @@
 -- Widths of declarations whose ranges keep the rules on numbers.
+use Rattle.safl_vread.proofs.Common.{VFault, and_parts, append_empty, declared_number_faults, flat_map, nat_tests, slice_index, widths_of}
 use Rattle.std.proofs.Common.{◌≡◌, ℕ, zero, suc, ◌≤◌, ◌<◌, List, [], ◌∷◌, ◌++◌, Option, None, Some, Bool, true, false, ◌==◌, nat_lt, refl, arith, lit≤}
-use Rattle.std.specs.Prelude.{slice_index}
-use Rattle.std.specs.List.{flat_map}
-use Rattle.std.proofs.lemmas.Bool.{and_parts}
-use Rattle.std.proofs.lemmas.Bool.Decides.{nat_tests}
 use Rattle.safl_word.specs.Numerals.{value}
-use Rattle.safl_word.proofs.Lists.{append_empty}
 use Rattle.safl_verilog.specs.declared.fault.VRule.TheVariants as rules
-use Rattle.safl_verilog.specs.declared.fault.VFault.{VFault}
 use Rattle.safl_verilog.specs.Files.{Spot, Declaration}
 use Rattle.safl_verilog.specs.Faults.{at, where_not, number_faults, is_range, range_faults, range_width}
-use Rattle.safl_verilog.specs.FaultParts.{declared_number_faults}
-use Rattle.safl_vread.specs.Lists.{widths_of}
 
 pub kept_true : (b : Bool) (f : VFault) → where_not b f ≡ [] → b ≡ true
 kept_true true f h = refl

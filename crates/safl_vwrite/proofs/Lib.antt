@@ -1,3 +1,4 @@
+mod Common
 pub mod Signals
 pub mod Texts
 pub mod Lengths

@@ -1,9 +1,8 @@
 -- The low bits of sums, differences, products and shifts.
+use Rattle.safl_word.proofs.Common.{mod-mod-pow, ones_shr}
 use Rattle.std.proofs.Common.{◌≡◌, ℕ, zero, suc, ◌+◌, ◌-◌, ◌*◌, ◌/◌, ◌%◌, ◌^◌, ◌<◌, ◌≤◌, sym, ◌∙◌, ap, subst, arith}
 use Rattle.std.proofs.Common.{bit_and, bit_or}
 use Rattle.std.proofs.lemmas.Nat.{and_mask, pow_pos, pow-add, shl_whole, or_shifted}
-use Rattle.std.proofs.lemmas.Nat.Bits.{ones_shr}
-use Rattle.std.proofs.Math.Pow.{mod-mod-pow}
 use Rattle.std.proofs.Math.Nat.{add-mul-mod_self_right}
 
 -- the ones of a width

@@ -1,13 +1,9 @@
 -- A blank ends each token.
+use Rattle.safl_word.proofs.Common.{Sym, and_parts, list_all, list_all-append, nat_tests}
 use Rattle.std.proofs.Common.{◌≡◌, ℕ, ◌+◌, ◌<◌, ◌^◌, List, [], ◌∷◌, ◌++◌, length, Some, None, Bool, true, false, not, ◌||◌, codes, decimal, refl, sym, ap, subst, arith, append_assoc}
-use Rattle.std.proofs.lemmas.Bool.{and_parts}
-use Rattle.std.proofs.lemmas.Bool.Decides.{nat_tests}
-use Rattle.std.proofs.lemmas.List.Folds.{list_all-append}
-use Rattle.std.specs.List.{list_all}
 use Rattle.safl_word.specs.Numerals.{between, is_digit, value}
 use Rattle.safl_word.specs.Tokens.{sym_text, FitsNumeral, IsToken, is_blank, in_name, base_of, SizedParts, IsLexeme, name_like, number_like, sized_like}
 use Rattle.safl_word.specs.Tokens.{symbol_like, IsLongest, Piece, Blank, Lexeme, text_of_all, StandAll, tokens_from, HasTokens}
-use Rattle.safl_word.specs.declared.token.Sym.{Sym}
 use Rattle.safl_word.specs.declared.token.Sym.TheVariants as syms
 use Rattle.safl_word.specs.Spacing.{Spaced, AreSpaced, spaced_text, spaced_tokens}
 use Rattle.safl_word.specs.declared.token.TokenKind.TheVariants as kinds

@@ -1,7 +1,6 @@
 -- Which bytes begin what.
+use Rattle.safl_word.proofs.Common.{is_digit, nat_tests}
 use Rattle.std.proofs.Common.{◌≡◌, ℕ, ◌≤◌, true, false, ◌==◌, arith}
-use Rattle.std.proofs.lemmas.Bool.Decides.{nat_tests}
-use Rattle.safl_word.specs.Numerals.{is_digit}
 use Rattle.safl_word.specs.Tokens.{is_blank, begins_name}
 
 pub digit_low : (c : ℕ) → is_digit 10 c ≡ true → 48 ≤ c

@@ -1,12 +1,10 @@
 -- A text is cut in one way only.
+use Rattle.safl_word.proofs.Common.{EndsRun, Rule, TokenKind}
 use Rattle.std.proofs.Common.{◌≡◌, ◌≢◌, ℕ, ◌≤◌, List, [], ◌∷◌, ◌++◌, length, true, false, not, ◌==◌, refl, sym, ◌∙◌, ap, subst, arith, append_assoc, length-append}
 use Rattle.safl_word.specs.Tokens.{is_blank, IsLexeme, name_like, number_like, sized_like, symbol_like, IsToken, IsLongest}
 use Rattle.safl_word.specs.Tokens.{Piece, Blank, Comment, Lexeme, text_of, text_of_all, EndsLine, StandsBefore, StandAll, IsBrokenAt, HasLexicalFault}
 use Rattle.safl_word.specs.Breaks.{IsTooLong, long_name, long_number, long_sized, IsForeign, BeginsTooLong, BreaksAtFirst, BreaksAt}
-use Rattle.safl_word.specs.declared.token.TokenKind.{TokenKind}
-use Rattle.safl_word.specs.declared.fault.Rule.{Rule}
 use Rattle.safl_word.specs.declared.fault.Rule.TheVariants as rules
-use Rattle.safl_word.specs.Runs.{EndsRun}
 use Rattle.safl_word.proofs.Runs.{same_run}
 use Rattle.safl_word.proofs.BytesBegin.{name_no_blank, name_no_slash, digit_no_blank, digit_no_slash}
 use Rattle.safl_word.proofs.Lexemes.{same_head, same_tail, sym_head, name_head, number_head, sized_head, else_blank, else_slash}

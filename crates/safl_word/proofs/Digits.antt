@@ -1,8 +1,7 @@
 -- Numbers of few digits.
+use Rattle.safl_word.proofs.Common.{le-leb, nat_tests}
 use Rattle.std.proofs.Common.{◌≡◌, ℕ, suc, ◌+◌, ◌-◌, ◌*◌, ◌^◌, ◌<◌, ◌≤◌, true, refl, ap, ◌∙◌, arith, add-one}
 use Rattle.std.proofs.Math.Nat.{pow-le-pow_right, pow-succ'}
-use Rattle.std.proofs.lemmas.Bool.{le-leb}
-use Rattle.std.proofs.lemmas.Bool.Decides.{nat_tests}
 use Rattle.std.specs.Char.{is_ascii_digit}
 use Rattle.safl_word.specs.Numerals.{digit, is_digit}
 

@@ -1,10 +1,8 @@
 -- The key and the symbol of a text.
+use Rattle.safl_word.proofs.Common.{Key, Sym, and_parts, eqb-true}
 use Rattle.std.proofs.Common.{◌≡◌, ◌≢◌, ℕ, ◌≤◌, List, [], ◌∷◌, length, Option, Some, None, Bool, true, false, ◌&&◌, ◌==◌, if◌then◌else◌, refl, sym, ◌∙◌, ap, arith}
-use Rattle.std.proofs.lemmas.Bool.{eqb-true, and_parts}
 use Rattle.safl_word.specs.Tokens.{key_text, sym_text, IsNameLike}
-use Rattle.safl_word.specs.declared.token.Key.{Key}
 use Rattle.safl_word.specs.declared.token.Key.TheVariants as keys
-use Rattle.safl_word.specs.declared.token.Sym.{Sym}
 use Rattle.safl_word.specs.declared.token.Sym.TheVariants as syms
 
 abbrev pub same : List ℕ → List ℕ → Bool

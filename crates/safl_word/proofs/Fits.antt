@@ -1,12 +1,10 @@
 -- A primitive on words gives a word.
+use Rattle.safl_word.proofs.Common.{Primitive, pow_mono, width_max}
 use Rattle.std.proofs.Common.{◌≡◌, ℕ, suc, ◌+◌, ◌-◌, ◌*◌, ◌/◌, ◌%◌, ◌^◌, ◌<◌, List, [], ◌∷◌, Option, Some, Bool, true, false, cond, not, ◌==◌, nat_lt, nat_le, sym, subst, arith}
 use Rattle.std.proofs.lemmas.Nat.{and_le_l, or_lt, xor_lt, pow_pos, pow-add}
 use Rattle.std.proofs.lemmas.Bool.{leb-true, ltb-true, eqb-true, and_parts}
 use Rattle.std.proofs.Math.Nat.{mod-lt, div-le_self, mul-le-mul_right}
-use Rattle.std.proofs.Math.Pow.{pow_mono}
 use Rattle.safl_word.specs.Words.{Word, IsWord}
-use Rattle.safl_word.specs.Limits.{width_max}
-use Rattle.safl_word.specs.declared.primitive.Primitive.{Primitive}
 use Rattle.safl_word.specs.declared.primitive.Primitive.TheVariants.{Add, Sub, Mul, And, Or, Xor, Not, Eq, Ne, Lt, Le, Gt, Ge, Shl, Shr, Cat, Bits, Ext}
 use Rattle.safl_word.specs.Primitives.{one_width, two_widths, where_true, result_width, one_word, two_words, bit_of, apply_prim}
 use Rattle.safl_word.specs.Words.{AreWords}

@@ -1,13 +1,10 @@
 -- What a text begins with.
+use Rattle.safl_word.proofs.Common.{EndsRun, Sym, eqb-true, is_digit}
 use Rattle.std.proofs.Common.{◌≡◌, ◌≢◌, ℕ, ◌≤◌, List, [], ◌∷◌, ◌++◌, length, Option, Some, None, Bool, true, false, not, ◌==◌, refl, sym, ◌∙◌, ap, subst, arith}
-use Rattle.std.proofs.lemmas.Bool.{eqb-true}
-use Rattle.safl_word.specs.Numerals.{is_digit}
 use Rattle.safl_word.specs.Tokens.{sym_text, is_blank, begins_name, in_name, IsLexeme, name_like, number_like, sized_like, symbol_like, IsLongest, Blank, Comment, Lexeme, EndsLine}
 use Rattle.safl_word.specs.Breaks.{IsForeign}
-use Rattle.safl_word.specs.declared.token.Sym.{Sym}
 use Rattle.safl_word.specs.declared.token.TokenKind.TheVariants as kinds
 use Rattle.safl_word.specs.declared.fault.Rule.TheVariants as rules
-use Rattle.safl_word.specs.Runs.{EndsRun}
 use Rattle.safl_word.proofs.Runs.{span}
 use Rattle.safl_word.proofs.Lexemes.{same_head, same_tail, name_head, number_head, sized_head, clash, no_cons}
 use Rattle.safl_word.proofs.Sizes.{symbol_longest}

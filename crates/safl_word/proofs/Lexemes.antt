@@ -1,12 +1,9 @@
 -- Where the longest token ends.
+use Rattle.safl_word.proofs.Common.{EndsRun, IsNumeral, Sym, is_digit, list_all}
 use Rattle.std.proofs.Common.{◌≡◌, ℕ, List, [], ◌∷◌, ◌++◌, Some, Bool, true, false, ◌&&◌, ◌==◌, not, refl, sym, ◌∙◌, ap, subst, arith, append_assoc}
 use Rattle.std.proofs.lemmas.Bool.{and_parts, not-true, or_left}
-use Rattle.std.specs.List.{list_all}
-use Rattle.safl_word.specs.Numerals.{is_digit, IsNumeral}
 use Rattle.safl_word.specs.Tokens.{sym_text, is_blank, begins_name, in_name, base_of, IsNameLike, SizedParts, sized_text, IsSizedLike, name_like, number_like, sized_like, symbol_like, IsLongest}
-use Rattle.safl_word.specs.declared.token.Sym.{Sym}
 use Rattle.safl_word.specs.declared.token.Sym.TheVariants as syms
-use Rattle.safl_word.specs.Runs.{EndsRun}
 use Rattle.safl_word.proofs.Runs.{run_short, same_run}
 use Rattle.safl_word.proofs.BytesBegin.{name_not_digit}
 

@@ -1,9 +1,8 @@
 -- The low bits of sums, differences, products and shifts of 64 bits.
+use Rattle.safl_word.proofs.Common.{mod-mod-pow, ones_shr}
 use Rattle.std.proofs.Common.{◌≡◌, ℕ, ◌+◌, ◌-◌, ◌*◌, ◌/◌, ◌%◌, ◌^◌, ◌<◌, ◌≤◌, sym, ◌∙◌, ap, subst, arith}
 use Rattle.std.proofs.Common.{bit_or}
 use Rattle.std.proofs.lemmas.Nat.{pow_pos, pow-add, shl_whole, or_shifted}
-use Rattle.std.proofs.lemmas.Nat.Bits.{ones_shr}
-use Rattle.std.proofs.Math.Pow.{mod-mod-pow}
 use Rattle.safl_word.proofs.Arith.{apart}
 
 -- the ones of a width

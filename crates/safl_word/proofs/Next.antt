@@ -1,18 +1,13 @@
 -- Each text that is not at its end begins with a piece, or with a fault.
+use Rattle.safl_word.proofs.Common.{EndsRun, IsNumeral, Key, Rule, is_digit, list_all, same_Some, value}
 use Rattle.std.proofs.Common.{◌≡◌, ℕ, ◌⊎◌, inl, inr, List, [], ◌∷◌, ◌++◌, length, Option, Some, None, Bool, true, false, ◌==◌, nat_lt, refl, sym, ◌∙◌, ap, subst, arith, append_assoc}
 use Rattle.std.proofs.lemmas.Bool.{and_parts, ltb-true, ltb-false, eqb-true}
-use Rattle.std.specs.List.{list_all}
-use Rattle.std.proofs.lemmas.Option.{same_Some}
-use Rattle.safl_word.specs.Numerals.{is_digit, value, IsNumeral}
 use Rattle.safl_word.specs.Tokens.{begins_name, in_name, base_of, IsNameLike, SizedParts, sized_text, IsSizedLike}
 use Rattle.safl_word.specs.Limits.{name_max, digits_max, value_bound}
 use Rattle.safl_word.specs.Tokens.{FitsNumeral, IsLongest, Piece, Lexeme, text_of, StandsBefore}
 use Rattle.safl_word.specs.Breaks.{Passes, long_name, long_number, long_sized, BreaksAtFirst}
-use Rattle.safl_word.specs.declared.token.Key.{Key}
 use Rattle.safl_word.specs.declared.token.TokenKind.TheVariants as kinds
-use Rattle.safl_word.specs.declared.fault.Rule.{Rule}
 use Rattle.safl_word.specs.declared.fault.Rule.TheVariants as rules
-use Rattle.safl_word.specs.Runs.{EndsRun}
 use Rattle.safl_word.proofs.Runs.{Span, span}
 use Rattle.safl_word.proofs.Lexemes.{same_head, same_tail, name_longest, number_longest, NoSizeFollows}
 use Rattle.safl_word.proofs.Sizes.{sized_longest}

@@ -1,13 +1,11 @@
 -- A numeral read from its front.
+use Rattle.safl_word.proofs.Common.{and_parts, list_all, list_all-append}
 use Rattle.std.proofs.Common.{◌≡◌, ℕ, zero, suc, ◌+◌, ◌*◌, ◌^◌, ◌<◌, ◌≤◌, List, [], ◌∷◌, ◌++◌, length, take, get_or, Bool, true, false, ◌==◌, refl, sym, ◌∙◌, ap, subst, arith, add-one, length-append}
 use Rattle.std.proofs.lemmas.Nat.{pow-add}
-use Rattle.std.proofs.lemmas.Bool.{and_parts}
 use Rattle.std.proofs.lemmas.List.{take-append-drop}
-use Rattle.std.proofs.lemmas.List.Folds.{list_all-append}
 use Rattle.std.proofs.Math.Seq.{take-suc, take-length}
 use Rattle.std.proofs.Math.ListN.{drop}
 use Rattle.std.proofs.Math.Nat.{one-le-pow, le-mul_of_pos_right, mul_assoc, add-mul, pow-suc, pow-zero}
-use Rattle.std.specs.List.{list_all}
 use Rattle.safl_word.specs.Numerals.{digit, is_digit, value, IsBounded}
 
 pub value-append : (b : ℕ) (u v : List ℕ) → value b (u ++ v) ≡ value b u * b ^ length v + value b v

@@ -1,13 +1,10 @@
 -- A text is a token of at most one kind.
+use Rattle.safl_word.proofs.Common.{IsNumeral, Sym, TokenKind, and_parts, is_digit, value}
 use Rattle.std.proofs.Common.{◌≡◌, ℕ, ◌⊎◌, inl, inr, List, [], ◌∷◌, length, refl, sym, ◌∙◌, ap, subst, arith}
-use Rattle.std.proofs.lemmas.Bool.{and_parts}
 use Rattle.std.proofs.lemmas.List.{append-nil}
-use Rattle.safl_word.specs.Numerals.{is_digit, value, IsNumeral}
 use Rattle.safl_word.specs.Tokens.{sym_text, IsNameLike, SizedParts, sized_text, IsSizedLike, IsLexeme, name_like, number_like, sized_like}
 use Rattle.safl_word.specs.Tokens.{symbol_like, FitsNumeral, IsSized, IsToken}
 use Rattle.safl_word.specs.Breaks.{Passes, IsTooLong, long_name, long_number, long_sized}
-use Rattle.safl_word.specs.declared.token.Sym.{Sym}
-use Rattle.safl_word.specs.declared.token.TokenKind.{TokenKind}
 use Rattle.safl_word.specs.declared.token.TokenKind.TheVariants as kinds
 use Rattle.safl_word.proofs.Runs.{same_run}
 use Rattle.safl_word.proofs.Lexemes.{sym_head, sized_head, else_name, else_digit, name_digit}

@@ -1,8 +1,6 @@
 -- Runs of bytes that pass a test, and what ends them.
+use Rattle.safl_word.proofs.Common.{EndsRun, and_parts, list_all}
 use Rattle.std.proofs.Common.{◌≡◌, ℕ, ◌≤◌, List, [], ◌∷◌, ◌++◌, length, Bool, true, false, refl, sym, ap, subst, arith}
-use Rattle.std.proofs.lemmas.Bool.{and_parts}
-use Rattle.std.specs.List.{list_all}
-use Rattle.safl_word.specs.Runs.{EndsRun}
 
 head_fails : (p : ℕ → Bool) (c : ℕ) (u w : List ℕ) {A : Type 0} → c ∷ u ≡ w → EndsRun p w → p c ≡ true → A
 head_fails p c u [] e h t = cc

@@ -1,12 +1,7 @@
 -- Sized numbers and symbols: where they end, and that their parts are known from the text.
+use Rattle.safl_word.proofs.Common.{EndsRun, IsNumeral, Sym, and_parts, is_digit, list_all, same_Some}
 use Rattle.std.proofs.Common.{◌≡◌, ℕ, ◌≤◌, List, [], ◌∷◌, ◌++◌, length, true, refl, sym, ◌∙◌, ap, subst, arith, length-append}
-use Rattle.std.proofs.lemmas.Bool.{and_parts}
-use Rattle.std.specs.List.{list_all}
-use Rattle.std.proofs.lemmas.Option.{same_Some}
-use Rattle.safl_word.specs.Numerals.{is_digit, IsNumeral}
 use Rattle.safl_word.specs.Tokens.{sym_text, base_of, IsNameLike, SizedParts, sized_text, IsSizedLike, name_like, number_like, sized_like, symbol_like, IsLongest}
-use Rattle.safl_word.specs.declared.token.Sym.{Sym}
-use Rattle.safl_word.specs.Runs.{EndsRun}
 use Rattle.safl_word.proofs.Runs.{run_short, same_run}
 use Rattle.safl_word.proofs.Lexemes.{same_head, same_tail, sym_head, sized_head, sized_parts, else_name, else_digit, name_digit}
 

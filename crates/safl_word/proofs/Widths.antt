@@ -1,10 +1,7 @@
 -- A primitive's result has the width of the table.
+use Rattle.safl_word.proofs.Common.{Primitive, le-leb, same_Some, width_max}
 use Rattle.std.proofs.Common.{◌≡◌, ℕ, ◌≤◌, List, [], ◌∷◌, map, Option, Some, None, Bool, true, false, cond, refl}
-use Rattle.std.proofs.lemmas.Bool.{le-leb}
-use Rattle.std.proofs.lemmas.Option.{same_Some}
 use Rattle.safl_word.specs.Words.{Word}
-use Rattle.safl_word.specs.Limits.{width_max}
-use Rattle.safl_word.specs.declared.primitive.Primitive.{Primitive}
 use Rattle.safl_word.specs.declared.primitive.Primitive.TheVariants.{Add, Sub, Mul, And, Or, Xor, Not, Eq, Ne, Lt, Le, Gt, Ge, Shl, Shr, Cat, Bits, Ext}
 use Rattle.safl_word.specs.Primitives.{is_width, one_width, two_widths, where_true, result_width, one_word, two_words, apply_prim}
 use Rattle.safl_word.proofs.Options.{none_is}

@@ -1,10 +1,9 @@
 -- Slices, shifts and decimal digits.
+use Rattle.safl_word.proofs.Common.{list_all-append, nat_tests}
 use Rattle.std.proofs.Common.{◌≡◌, ℕ, ◌+◌, ◌-◌, ◌*◌, ◌/◌, ◌%◌, ◌^◌, ◌<◌, ◌≤◌, List, [], ◌∷◌, ◌++◌, true, cond, refl, sym, ◌∙◌, ap, subst, arith, decimal, length-append}
 use Rattle.std.proofs.lemmas.Nat.{shr_split}
 use Rattle.std.proofs.lemmas.Bool.{le-ltb}
-use Rattle.std.proofs.lemmas.Bool.Decides.{nat_tests}
 use Rattle.std.proofs.lemmas.Fmt.{decimal_by_steps_wide, length-decimal-le_wide}
-use Rattle.std.proofs.lemmas.List.Folds.{list_all-append}
 use Rattle.std.proofs.Math.Pow.{shr_mod}
 use Rattle.std.proofs.Math.Nat.{div-one, pow-zero}
 use Rattle.safl_word.specs.Words.{Word, IsWord}

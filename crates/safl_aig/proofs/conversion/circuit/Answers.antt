@@ -1,10 +1,8 @@
+use Rattle.safl_aig.proofs.Common.{AllZero, Connected, next_lits, output_lits, weight}
 use Rattle.std.proofs.Common.{◌≡◌, ◌≤◌, sym, subst, ap, ◌∙◌, arith}
 use Rattle.safl_net.specs.Netlist.{AllSet}
 use Rattle.safl_aiger.specs.Circuits.{Circuit}
-use Rattle.safl_aig.specs.Weights.{weight, AllZero}
 use Rattle.safl_aig.specs.Mirrors.{Mirrors, SameBits}
-use Rattle.safl_aig.specs.Wiring.{Connected}
-use Rattle.safl_aig.specs.Places.{next_lits, output_lits}
 use Rattle.safl_aig.proofs.Connecting.{first_light}
 use Rattle.safl_aig.proofs.Mirroring.{IsMade, mirrors}
 use Rattle.safl_aig.proofs.Naming.{makes_circuit, inputs_count}

@@ -1,6 +1,4 @@
-use Rattle.std.proofs.Common.{◌≡◌}
-use Rattle.safl_aiger.specs.Circuits.{names_of}
-use Rattle.safl_aig.specs.Bits.{gathered, of_kind}
+use Rattle.safl_aig.proofs.Common.{gathered, names_of, of_kind, ◌≡◌}
 use Rattle.safl_aig.specs.Tables.{kind_test}
 use Rattle.safl_aig.specs.Places.{signal_names}
 use Rattle.safl_aig.proofs.places.kind_names.Given as goal

@@ -1,8 +1,5 @@
-use Rattle.std.proofs.Common.{◌≡◌}
+use Rattle.safl_aig.proofs.Common.{gathered, lits_at, next_sig, of_kind, ◌≡◌}
 use Rattle.safl_net.specs.Netlist.{is_register}
-use Rattle.safl_aig.specs.Bits.{gathered, of_kind}
-use Rattle.safl_aig.specs.Tables.{lits_at}
-use Rattle.safl_aig.specs.Places.{next_sig}
 use Rattle.safl_aig.proofs.places.next_lits.Given as goal
 
 abbrev pub invariant-signals : goal.invariant-signals

@@ -1,6 +1,5 @@
-use Rattle.std.proofs.Common.{◌≡◌}
+use Rattle.safl_aig.proofs.Common.{lits_at, ◌≡◌}
 use Rattle.safl_aig.specs.Bits.{gathered, output_at}
-use Rattle.safl_aig.specs.Tables.{lits_at}
 use Rattle.safl_aig.proofs.places.output_lits.Given as goal
 
 abbrev pub invariant-outputs : goal.invariant-outputs

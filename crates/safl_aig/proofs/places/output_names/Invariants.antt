@@ -1,6 +1,4 @@
-use Rattle.std.proofs.Common.{◌≡◌}
-use Rattle.safl_aiger.specs.Circuits.{names_of}
-use Rattle.safl_aig.specs.Bits.{gathered}
+use Rattle.safl_aig.proofs.Common.{gathered, names_of, ◌≡◌}
 use Rattle.safl_aig.specs.Places.{output_names}
 use Rattle.safl_aig.proofs.places.output_names.Given as goal
 

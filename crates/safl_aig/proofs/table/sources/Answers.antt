@@ -1,6 +1,5 @@
+use Rattle.safl_aig.proofs.Common.{length_push, summed_more}
 use Rattle.std.proofs.Common.{◌+◌, length, ap, ◌∙◌, arith}
-use Rattle.std.proofs.lemmas.List.{length_push}
-use Rattle.safl_word.proofs.Lists.{summed_more}
 use Rattle.safl_net.specs.Netlist.{is_input, is_register}
 use Rattle.safl_aig.specs.Tables.{width_if}
 use Rattle.safl_aig.proofs.Sources.{bits_step, pushed_lits}

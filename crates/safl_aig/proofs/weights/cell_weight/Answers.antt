@@ -1,7 +1,5 @@
+use Rattle.safl_aig.proofs.Common.{CellFits, Sig, cell_on}
 use Rattle.std.proofs.Common.{◌≡◌, List, [], ◌∷◌, refl, sym, subst, ◌∙◌}
-use Rattle.safl_net.specs.declared.cell.Sig.{Sig}
-use Rattle.safl_net.specs.Making.{cell_on}
-use Rattle.safl_net.specs.Rules.{CellFits}
 use Rattle.safl_aig.proofs.Cells.{shape_2, shape_3, sig, operand_known}
 use Rattle.safl_aig.proofs.weights.cell_weight.Goals as goal
 

@@ -1,6 +1,4 @@
-use Rattle.std.proofs.Common.{◌≡◌, ◌*◌, ◌≤◌}
-use Rattle.safl_word.specs.Lists.{summed}
-use Rattle.safl_aig.specs.Weights.{output_weight}
+use Rattle.safl_aig.proofs.Common.{output_weight, summed, ◌*◌, ◌≡◌, ◌≤◌}
 use Rattle.safl_aig.proofs.weights.outputs_weight.Given as goal
 
 abbrev pub invariant-outputs : goal.invariant-outputs

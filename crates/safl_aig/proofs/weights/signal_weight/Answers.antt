@@ -1,6 +1,5 @@
+use Rattle.safl_aig.proofs.Common.{cell_of, sym}
 use Rattle.safl_net.specs.Netlist.{width_of}
-use Rattle.std.proofs.Common.{sym}
-use Rattle.safl_net.specs.Stored.{cell_of}
 use Rattle.safl_aig.proofs.Nets.{cell_at}
 use Rattle.safl_aig.proofs.weights.signal_weight.Goals as goal
 

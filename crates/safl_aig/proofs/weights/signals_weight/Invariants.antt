@@ -1,6 +1,4 @@
-use Rattle.std.proofs.Common.{◌≡◌, ◌*◌, ◌≤◌}
-use Rattle.safl_word.specs.Lists.{summed}
-use Rattle.safl_aig.specs.Weights.{signal_weight}
+use Rattle.safl_aig.proofs.Common.{signal_weight, summed, ◌*◌, ◌≡◌, ◌≤◌}
 use Rattle.safl_aig.proofs.weights.signals_weight.Given as goal
 
 abbrev pub invariant-signals : goal.invariant-signals

@@ -1,8 +1,5 @@
+use Rattle.safl_aig.proofs.Common.{IfOk-weaker, Lit, Sig, cell_on}
 use Rattle.std.proofs.Common.{◌≡◌, ℕ, ◌≤◌, List, [], ◌∷◌, length, refl, sym, subst, ◌∙◌, arith}
-use Rattle.std.proofs.lemmas.Result.{IfOk-weaker}
-use Rattle.safl_net.specs.declared.cell.Sig.{Sig}
-use Rattle.safl_net.specs.Making.{cell_on}
-use Rattle.safl_aiger.specs.declared.literal.Lit.{Lit}
 use Rattle.safl_bits.specs.Gates.{AreLiterals}
 use Rattle.safl_aig.specs.Tables.{AreReady, CellMade, RoomFor, GrowsFor, OpMade, MayDo, GrowsBy}
 use Rattle.safl_aig.proofs.Cells.{shape_1, shape_2, shape_3, sig, may_do, grows_for, made_for, operand_known, ready_narrow}

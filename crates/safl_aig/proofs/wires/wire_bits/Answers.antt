@@ -1,6 +1,4 @@
-use Rattle.std.proofs.Common.{sym}
-use Rattle.std.proofs.lemmas.Result.{IfOk-weaker}
-use Rattle.safl_net.specs.Stored.{cell_of}
+use Rattle.safl_aig.proofs.Common.{IfOk-weaker, cell_of, sym}
 use Rattle.safl_aig.proofs.Connecting.{room_for, wire_grows, wire_made}
 use Rattle.safl_aig.proofs.wires.wire_bits.Goals as goal
 

@@ -1,7 +1,5 @@
-use Rattle.std.proofs.Common.{◌+◌, drop, subst, sym, ◌∙◌, arith}
-use Rattle.safl_aiger.specs.Lines.{text_lines}
+use Rattle.safl_aiger.proofs.Common.{Circuit, arith, drop, subst, sym, text_lines, ◌+◌, ◌∙◌}
 use Rattle.safl_aiger.specs.Reads.{Named, AigReads, counts, unnamed, SymbolFault}
-use Rattle.safl_aiger.specs.Circuits.{Circuit}
 use Rattle.safl_aiger.specs.Symbols.{named, SymbolsPass, SymbolsFail}
 use Rattle.safl_aiger.proofs.Concluding.{reads, reads_circuit, symbols_fault, lines_room}
 use Rattle.safl_aiger.proofs.read.read_names.Goals as goal

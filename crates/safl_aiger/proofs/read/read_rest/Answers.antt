@@ -1,6 +1,5 @@
-use Rattle.std.proofs.Common.{◌+◌, sym, subst, ap, arith}
+use Rattle.safl_aiger.proofs.Common.{Fails, ap, arith, subst, sym, ◌+◌}
 use Rattle.safl_aiger.specs.Reads.{HasAigFault, counts, total, line_kinds}
-use Rattle.safl_aiger.specs.Sections.{Fails}
 use Rattle.safl_aiger.specs.declared.sections.Stop.{Stop}
 use Rattle.safl_aiger.proofs.Concluding.{body_fault, stop_small}
 use Rattle.safl_aiger.proofs.read.read_rest.Goals as goal

@@ -1,9 +1,5 @@
+use Rattle.safl_aiger.proofs.Common.{And, Lit, Passes, and_numbers, kinds_from, length_push}
 use Rattle.std.proofs.Common.{◌≡◌, ◌+◌, ◌-◌, ◌*◌, [], ◌∷◌, ◌++◌, suc, length, sym, ap, ◌∙◌, subst}
-use Rattle.std.proofs.lemmas.List.{length_push}
-use Rattle.safl_aiger.specs.declared.literal.Lit.{Lit}
-use Rattle.safl_aiger.specs.declared.reading.LineKind.TheVariants.{And}
-use Rattle.safl_aiger.specs.Reads.{kinds_from, and_numbers}
-use Rattle.safl_aiger.specs.Sections.{Passes}
 use Rattle.safl_aiger.proofs.Passing.{passes_on, stops_here, kinds_long, kinds_more, kinds_split, and_more}
 use Rattle.safl_aiger.proofs.sections.read_ands.Goals as goal
 

@@ -1,7 +1,4 @@
-use Rattle.std.proofs.Common.{◌≡◌, length}
-use Rattle.safl_aiger.specs.declared.reading.LineKind.TheVariants.{And}
-use Rattle.safl_aiger.specs.Reads.{kinds_from, and_numbers}
-use Rattle.safl_aiger.specs.Sections.{Passes}
+use Rattle.safl_aiger.proofs.Common.{And, Passes, and_numbers, kinds_from, length, ◌≡◌}
 use Rattle.safl_aiger.proofs.sections.read_ands.Given as goal
 
 abbrev pub invariant-loop-i : goal.invariant-loop-i

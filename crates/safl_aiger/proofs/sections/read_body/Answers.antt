@@ -1,8 +1,6 @@
+use Rattle.safl_aiger.proofs.Common.{Fails, Passes, and_numbers, kinds_from, latch_numbers, length-replicate, output_numbers, own_numbers}
 use Rattle.std.proofs.Common.{◌≡◌, ◌+◌, ◌++◌, length, replicate, ◌∙◌, subst, append_assoc, length-append}
-use Rattle.std.proofs.lemmas.List.{length-replicate}
 use Rattle.safl_aiger.specs.declared.reading.LineKind.TheVariants.{Input, Latch, Output, And}
-use Rattle.safl_aiger.specs.Reads.{kinds_from, own_numbers, latch_numbers, output_numbers, and_numbers}
-use Rattle.safl_aiger.specs.Sections.{Passes, Fails}
 use Rattle.safl_aiger.proofs.Passing.{passes_on, fails_on, fails_before, kinds_long}
 use Rattle.safl_aiger.proofs.sections.read_body.Goals as goal
 

@@ -1,7 +1,6 @@
+use Rattle.safl_aiger.proofs.Common.{Passes, kinds_from, own_numbers}
 use Rattle.std.proofs.Common.{◌≡◌, ◌+◌, ◌-◌, [], ◌∷◌, ◌++◌, suc, sym, ap, ◌∙◌, subst}
 use Rattle.safl_aiger.specs.declared.reading.LineKind.TheVariants.{Input}
-use Rattle.safl_aiger.specs.Reads.{kinds_from, own_numbers}
-use Rattle.safl_aiger.specs.Sections.{Passes}
 use Rattle.safl_aiger.proofs.Passing.{passes_on, stops_here, kinds_long, kinds_more, kinds_split, own_more}
 use Rattle.safl_aiger.proofs.sections.read_inputs.Goals as goal
 

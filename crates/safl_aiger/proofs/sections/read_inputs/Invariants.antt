@@ -1,6 +1,5 @@
+use Rattle.safl_aiger.proofs.Common.{Passes, kinds_from, own_numbers}
 use Rattle.safl_aiger.specs.declared.reading.LineKind.TheVariants.{Input}
-use Rattle.safl_aiger.specs.Reads.{kinds_from, own_numbers}
-use Rattle.safl_aiger.specs.Sections.{Passes}
 use Rattle.safl_aiger.proofs.sections.read_inputs.Given as goal
 
 abbrev pub invariant-loop-i : goal.invariant-loop-i

@@ -1,9 +1,6 @@
+use Rattle.safl_aiger.proofs.Common.{Lit, Passes, kinds_from, latch_numbers, length_push}
 use Rattle.std.proofs.Common.{◌≡◌, ◌+◌, ◌-◌, ◌*◌, [], ◌∷◌, ◌++◌, suc, length, sym, ap, ◌∙◌, subst}
-use Rattle.std.proofs.lemmas.List.{length_push}
-use Rattle.safl_aiger.specs.declared.literal.Lit.{Lit}
 use Rattle.safl_aiger.specs.declared.reading.LineKind.TheVariants.{Latch}
-use Rattle.safl_aiger.specs.Reads.{kinds_from, latch_numbers}
-use Rattle.safl_aiger.specs.Sections.{Passes}
 use Rattle.safl_aiger.proofs.Passing.{passes_on, stops_here, kinds_long, kinds_more, kinds_split, latch_more}
 use Rattle.safl_aiger.proofs.sections.read_latches.Goals as goal
 

@@ -1,7 +1,5 @@
-use Rattle.std.proofs.Common.{◌≡◌, length}
+use Rattle.safl_aiger.proofs.Common.{Passes, kinds_from, latch_numbers, length, ◌≡◌}
 use Rattle.safl_aiger.specs.declared.reading.LineKind.TheVariants.{Latch}
-use Rattle.safl_aiger.specs.Reads.{kinds_from, latch_numbers}
-use Rattle.safl_aiger.specs.Sections.{Passes}
 use Rattle.safl_aiger.proofs.sections.read_latches.Given as goal
 
 abbrev pub invariant-loop-i : goal.invariant-loop-i

@@ -1,9 +1,6 @@
-use Rattle.std.proofs.Common.{◌≡◌, ◌+◌, ◌-◌, [], ◌∷◌, ◌++◌, length, replicate, sym, ap, ◌∙◌, subst}
+use Rattle.safl_aiger.proofs.Common.{Lit, Passes, [], ap, length, output_numbers, replicate, subst, sym, ◌++◌, ◌+◌, ◌-◌, ◌∙◌, ◌∷◌, ◌≡◌}
 use Rattle.std.proofs.lemmas.List.{length_push, replicate_more, length-replicate}
-use Rattle.safl_aiger.specs.declared.literal.Lit.{Lit}
 use Rattle.safl_aiger.specs.declared.reading.LineKind.TheVariants.{Output}
-use Rattle.safl_aiger.specs.Reads.{output_numbers}
-use Rattle.safl_aiger.specs.Sections.{Passes}
 use Rattle.safl_aiger.proofs.Passing.{passes_on, stops_here, output_more, outputs_split}
 use Rattle.safl_aiger.proofs.sections.read_outputs.Goals as goal
 

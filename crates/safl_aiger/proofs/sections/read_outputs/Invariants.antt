@@ -1,7 +1,5 @@
-use Rattle.std.proofs.Common.{◌≡◌, length, replicate}
+use Rattle.safl_aiger.proofs.Common.{Passes, length, output_numbers, replicate, ◌≡◌}
 use Rattle.safl_aiger.specs.declared.reading.LineKind.TheVariants.{Output}
-use Rattle.safl_aiger.specs.Reads.{output_numbers}
-use Rattle.safl_aiger.specs.Sections.{Passes}
 use Rattle.safl_aiger.proofs.sections.read_outputs.Given as goal
 
 abbrev pub invariant-loop-i : goal.invariant-loop-i

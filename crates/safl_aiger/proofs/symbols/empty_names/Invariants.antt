@@ -1,5 +1,4 @@
-use Rattle.std.proofs.Common.{◌≡◌, [], replicate}
-use Rattle.safl_aiger.specs.Circuits.{names_of}
+use Rattle.safl_aiger.proofs.Common.{[], names_of, replicate, ◌≡◌}
 use Rattle.safl_aiger.proofs.symbols.empty_names.Given as goal
 
 abbrev pub invariant-loop-i : goal.invariant-loop-i

@@ -1,7 +1,6 @@
-use Rattle.std.proofs.Common.{drop, ap, ◌∙◌}
+use Rattle.safl_aiger.proofs.Common.{ap, drop, named, ◌∙◌}
 use Rattle.safl_aiger.specs.declared.symbols.Sort.TheVariants.{Input, Latch, Output}
 use Rattle.safl_aiger.specs.Reads.{symbol_line}
-use Rattle.safl_aiger.specs.Symbols.{named}
 use Rattle.safl_aiger.proofs.Parsing.{name_taken}
 use Rattle.safl_aiger.proofs.symbols.name_place.Goals as goal
 

@@ -1,6 +1,4 @@
-use Rattle.std.proofs.Common.{◌-◌, length, drop}
-use Rattle.safl_aiger.specs.Lines.{text_lines}
-use Rattle.safl_aiger.specs.Symbols.{named}
+use Rattle.safl_aiger.proofs.Common.{drop, length, named, text_lines, ◌-◌}
 use Rattle.safl_aiger.proofs.Naming.{Underway}
 use Rattle.safl_aiger.proofs.symbols.read_symbols.Given as goal
 

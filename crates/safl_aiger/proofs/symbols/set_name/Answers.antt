@@ -1,7 +1,6 @@
+use Rattle.safl_aiger.proofs.Common.{Name, nat_tests}
 use Rattle.std.proofs.Common.{◌≡◌, length, vec_len, ap, sym, ◌∙◌, arith}
-use Rattle.std.proofs.lemmas.Bool.Decides.{nat_tests}
 use Rattle.std.proofs.lemmas.List.{nil_from_length}
-use Rattle.safl_aiger.specs.declared.circuit.Name.{Name}
 use Rattle.safl_aiger.proofs.Naming.{sets_name}
 use Rattle.safl_aiger.proofs.symbols.set_name.Goals as goal
 

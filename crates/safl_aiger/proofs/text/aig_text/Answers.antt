@@ -1,5 +1,4 @@
-use Rattle.std.proofs.Common.{◌+◌, ◌++◌, ◌∷◌, [], ap, ◌∙◌}
-use Rattle.safl_aiger.specs.Circuits.{base}
+use Rattle.safl_aiger.proofs.Common.{[], ap, base, ◌++◌, ◌+◌, ◌∙◌, ◌∷◌}
 use Rattle.safl_aiger.specs.Texts.{joined_lines, header_line, input_text, latch_text, output_text, and_text, symbols_text}
 use Rattle.safl_aiger.proofs.Joining.{sections}
 use Rattle.safl_aiger.proofs.Rows.{section_rows}

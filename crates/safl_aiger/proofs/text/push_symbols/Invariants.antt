@@ -1,6 +1,5 @@
-use Rattle.std.proofs.Common.{◌≡◌, ◌++◌, drop}
+use Rattle.safl_aiger.proofs.Common.{drop, names_of, ◌++◌, ◌≡◌}
 use Rattle.safl_aiger.specs.Texts.{joined_lines, symbols_text}
-use Rattle.safl_aiger.specs.Circuits.{names_of}
 use Rattle.safl_aiger.proofs.text.push_symbols.Given as goal
 
 abbrev pub invariant-loop-i : goal.invariant-loop-i

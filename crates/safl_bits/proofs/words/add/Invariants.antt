@@ -1,7 +1,4 @@
-use Rattle.std.proofs.Common.{◌≡◌, ◌+◌, ◌*◌, ◌^◌, length, take}
-use Rattle.safl_word.specs.Primitives.{bit_of}
-use Rattle.safl_aiger.specs.Literals.{Assignment, on, shown}
-use Rattle.safl_bits.specs.Gates.{IsLiteral, AreLiterals, Grows, Holds}
+use Rattle.safl_bits.proofs.Common.{AreLiterals, Assignment, Grows, Holds, IsLiteral, bit_of, length, on, shown, take, ◌*◌, ◌+◌, ◌^◌, ◌≡◌}
 use Rattle.safl_bits.proofs.words.add.Given as goal
 
 abbrev pub invariant-loop-i : goal.invariant-loop-i

@@ -1,6 +1,4 @@
-use Rattle.std.proofs.Common.{◌≡◌, ◌==◌, not, take}
-use Rattle.safl_aiger.specs.Literals.{Assignment, on, shown}
-use Rattle.safl_bits.specs.Gates.{IsLiteral, Grows, Holds}
+use Rattle.safl_bits.proofs.Common.{Assignment, Grows, Holds, IsLiteral, not, on, shown, take, ◌==◌, ◌≡◌}
 use Rattle.safl_bits.proofs.words.any.Given as goal
 
 abbrev pub invariant-loop-i : goal.invariant-loop-i

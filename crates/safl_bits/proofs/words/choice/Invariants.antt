@@ -1,6 +1,4 @@
-use Rattle.std.proofs.Common.{◌≡◌, ◌*◌, cond, length, take}
-use Rattle.safl_aiger.specs.Literals.{Assignment, on, shown}
-use Rattle.safl_bits.specs.Gates.{AreLiterals, Grows, Holds}
+use Rattle.safl_bits.proofs.Common.{AreLiterals, Assignment, Grows, Holds, cond, length, on, shown, take, ◌*◌, ◌≡◌}
 use Rattle.safl_bits.proofs.words.choice.Given as goal
 
 abbrev pub invariant-loop-i : goal.invariant-loop-i

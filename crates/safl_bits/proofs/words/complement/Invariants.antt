@@ -1,6 +1,4 @@
-use Rattle.std.proofs.Common.{◌≡◌, ◌+◌, ◌^◌, length, take}
-use Rattle.safl_aiger.specs.Literals.{Assignment, shown}
-use Rattle.safl_bits.specs.Gates.{Gates, AreLiterals}
+use Rattle.safl_bits.proofs.Common.{AreLiterals, Assignment, Gates, length, shown, take, ◌+◌, ◌^◌, ◌≡◌}
 use Rattle.safl_bits.proofs.words.complement.Given as goal
 
 abbrev pub invariant-loop-i : goal.invariant-loop-i

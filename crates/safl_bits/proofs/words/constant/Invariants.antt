@@ -1,6 +1,5 @@
+use Rattle.safl_bits.proofs.Common.{AreLiterals, Assignment, Gates, IsLiteral, on, shown}
 use Rattle.std.proofs.Common.{◌≡◌, ◌%◌, ◌^◌, false, length}
-use Rattle.safl_aiger.specs.Literals.{Assignment, on, shown}
-use Rattle.safl_bits.specs.Gates.{Gates, IsLiteral, AreLiterals}
 use Rattle.safl_bits.proofs.words.constant.Given as goal
 
 abbrev pub invariant-loop-i : goal.invariant-loop-i

@@ -1,5 +1,4 @@
-use Rattle.std.proofs.Common.{◌+◌, ◌*◌, ◌^◌, ◌<◌, nat_le, length, take, sym, ◌∙◌, arith}
-use Rattle.safl_aiger.specs.Literals.{on, shown}
+use Rattle.safl_bits.proofs.Common.{arith, length, nat_le, on, shown, sym, take, ◌*◌, ◌+◌, ◌<◌, ◌^◌, ◌∙◌}
 use Rattle.safl_bits.proofs.Growing.{grows_on, grows_within, holds_before}
 use Rattle.safl_bits.proofs.Places.{at, shown_more, taken_lt}
 use Rattle.safl_bits.proofs.Steps.{covers_step}

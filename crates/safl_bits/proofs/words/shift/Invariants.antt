@@ -1,7 +1,4 @@
-use Rattle.std.proofs.Common.{◌≡◌, ◌*◌, ◌^◌, length, take}
-use Rattle.safl_aiger.specs.Literals.{Assignment, shown}
-use Rattle.safl_bits.specs.Gates.{AreLiterals, Grows, Holds}
-use Rattle.safl_bits.specs.Operators.{moved}
+use Rattle.safl_bits.proofs.Common.{AreLiterals, Assignment, Grows, Holds, length, moved, shown, take, ◌*◌, ◌^◌, ◌≡◌}
 use Rattle.safl_bits.proofs.words.shift.Given as goal
 
 abbrev pub invariant-loop-i : goal.invariant-loop-i

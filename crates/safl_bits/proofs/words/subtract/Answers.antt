@@ -1,6 +1,4 @@
-use Rattle.std.proofs.Common.{◌≡◌, ◌+◌, ◌*◌, ◌^◌, ◌<◌, not, length, ap, ◌∙◌, sym, subst}
-use Rattle.safl_word.specs.Primitives.{bit_of}
-use Rattle.safl_aiger.specs.Literals.{on, shown}
+use Rattle.safl_bits.proofs.Common.{ap, bit_of, length, not, on, shown, subst, sym, ◌*◌, ◌+◌, ◌<◌, ◌^◌, ◌∙◌, ◌≡◌}
 use Rattle.safl_bits.proofs.Growing.{holds_before}
 use Rattle.safl_bits.proofs.Places.{shown_lt}
 use Rattle.safl_bits.proofs.Steps.{difference_is}

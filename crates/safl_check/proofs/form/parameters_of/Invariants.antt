@@ -1,7 +1,4 @@
-use Rattle.std.proofs.Common.{◌≡◌, take, map}
-use Rattle.safl_tree.specs.Shown.{shown_parameters}
-use Rattle.safl_typing.specs.Forms.{shown_param}
-use Rattle.safl_typing.specs.Heads.{slot_of}
+use Rattle.safl_check.proofs.Common.{map, shown_param, shown_parameters, slot_of, take, ◌≡◌}
 use Rattle.safl_check.proofs.form.parameters_of.Given as goal
 
 abbrev pub invariant-loop-param : goal.invariant-loop-param

@@ -1,12 +1,7 @@
+use Rattle.safl_check.proofs.Common.{All, BodyHasSlots, err_from_is_err_and, known, length-map, shown_definition, shown_definitions}
 use Rattle.std.proofs.Common.{sym, ◌∙◌, subst, arith}
-use Rattle.std.specs.List.{All}
-use Rattle.std.proofs.lemmas.List.{length-map}
 use Rattle.std.proofs.lemmas.List.Elements.{All-nil, All-push}
-use Rattle.safl_term.specs.Tables.{BodyHasSlots}
 use Rattle.std.proofs.lemmas.Option.{get_or_from_slice_get}
-use Rattle.std.proofs.lemmas.Result.{err_from_is_err_and}
-use Rattle.safl_tree.specs.Shown.{shown_definition, shown_definitions}
-use Rattle.safl_typing.specs.PlainHeads.{known}
 use Rattle.safl_check.proofs.Remaining.{are_known, as_many_heads}
 use Rattle.safl_check.proofs.Walked as walk
 use Rattle.safl_check.proofs.functions.check_functions.Goals as goal

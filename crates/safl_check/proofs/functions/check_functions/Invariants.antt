@@ -1,6 +1,4 @@
-use Rattle.std.specs.List.{All}
-use Rattle.safl_term.specs.Tables.{BodyHasSlots}
-use Rattle.safl_tree.specs.Shown.{shown_definitions}
+use Rattle.safl_check.proofs.Common.{All, BodyHasSlots, shown_definitions}
 use Rattle.safl_check.proofs.Walked.{IsWalked}
 use Rattle.safl_check.proofs.functions.check_functions.Given as goal
 

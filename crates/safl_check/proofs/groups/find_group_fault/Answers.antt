@@ -1,6 +1,5 @@
+use Rattle.safl_check.proofs.Common.{group_fault_at, shown_definitions}
 use Rattle.std.proofs.Common.{sym, true}
-use Rattle.safl_tree.specs.Shown.{shown_definitions}
-use Rattle.safl_check.specs.Groups.{group_fault_at}
 use Rattle.safl_check.proofs.EarlierNames.{group_at, group_stops, group_next, joined_stops, joined_next}
 use Rattle.safl_check.proofs.groups.find_group_fault.Goals as goal
 

@@ -1,7 +1,5 @@
-use Rattle.std.proofs.Common.{◌≡◌, drop}
-use Rattle.safl_tree.specs.Shown.{shown_definitions}
+use Rattle.safl_check.proofs.Common.{drop, earlier, group_fault_at, shown_definitions, ◌≡◌}
 use Rattle.safl_typing.specs.Walk.{joined_faults}
-use Rattle.safl_check.specs.Groups.{earlier, group_fault_at}
 use Rattle.safl_check.proofs.groups.find_group_fault.Given as goal
 
 -- the members that are left decide

@@ -1,9 +1,6 @@
+use Rattle.safl_check.proofs.Common.{Fault, earlier, length-map, shown_definition, shown_definitions}
 use Rattle.std.proofs.Common.{◌<◌, ◌∙◌, length, Option, Some, is_some, ap, sym, arith}
 use Rattle.std.specs.Prelude.{ℕ}
-use Rattle.std.proofs.lemmas.List.{length-map}
-use Rattle.safl_word.specs.declared.fault.Fault.{Fault}
-use Rattle.safl_tree.specs.Shown.{shown_definition, shown_definitions}
-use Rattle.safl_check.specs.Groups.{earlier}
 use Rattle.safl_check.proofs.EarlierNames.{head_shown, head_named, head_other, head_same}
 use Rattle.safl_check.proofs.SameNames.{namesake}
 use Rattle.safl_check.proofs.Remaining.{as_many_heads}

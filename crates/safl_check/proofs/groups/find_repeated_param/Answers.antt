@@ -1,6 +1,5 @@
+use Rattle.safl_check.proofs.Common.{Fault, Param}
 use Rattle.std.proofs.Common.{◌∙◌, List, [], ap, sym, Some}
-use Rattle.safl_word.specs.declared.fault.Fault.{Fault}
-use Rattle.safl_tree.specs.declared.tree.Param.{Param}
 use Rattle.safl_typing.specs.Walk.{repeated}
 use Rattle.safl_check.proofs.EarlierNames.{places, repeated_here, repeated_next}
 use Rattle.safl_check.proofs.groups.find_repeated_param.Goals as goal

@@ -1,8 +1,6 @@
+use Rattle.safl_check.proofs.Common.{Param, shown_parameters, shown_slots}
 use Rattle.std.proofs.Common.{◌∙◌, ℕ, List, map, ap}
-use Rattle.safl_tree.specs.declared.tree.Param.{Param}
-use Rattle.safl_tree.specs.Shown.{shown_parameters}
 use Rattle.safl_typing.specs.Heads.{Slot, Head, slot_of}
-use Rattle.safl_typing.specs.PlainHeads.{shown_slots}
 use Rattle.safl_check.proofs.heads.make_head.Goals as goal
 
 abbrev head_with : ℕ → ℕ → List ℕ → List Slot → Head

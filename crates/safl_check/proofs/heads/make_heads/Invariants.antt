@@ -1,7 +1,5 @@
-use Rattle.std.proofs.Common.{◌≡◌, ◌++◌, drop}
-use Rattle.safl_tree.specs.Shown.{shown_definitions}
+use Rattle.safl_check.proofs.Common.{drop, shown_definitions, shown_heads, ◌++◌, ◌≡◌}
 use Rattle.safl_typing.specs.Heads.{heads_from, heads}
-use Rattle.safl_typing.specs.PlainHeads.{shown_heads}
 use Rattle.safl_check.proofs.heads.make_heads.Given as goal
 
 -- the heads so far, and those of the rest

@@ -1,7 +1,6 @@
+use Rattle.safl_check.proofs.Common.{Slot, shown_parameter, slot_of}
 use Rattle.std.proofs.Common.{◌∙◌, List, ap}
 use Rattle.std.specs.Prelude.{ℕ}
-use Rattle.safl_tree.specs.Shown.{shown_parameter}
-use Rattle.safl_typing.specs.Heads.{Slot, slot_of}
 use Rattle.safl_typing.specs.PlainHeads.{shown_slot}
 use Rattle.safl_check.proofs.HeadsAndBodies.{shown_next, shown_all}
 use Rattle.safl_check.proofs.heads.make_slots.Goals as goal

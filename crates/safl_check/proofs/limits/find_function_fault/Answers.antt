@@ -1,10 +1,5 @@
-use Rattle.std.proofs.Common.{◌∙◌, ap, sym, Some}
+use Rattle.safl_check.proofs.Common.{Definition, Fault, Some, ap, functions_max, limit, shown_definition, sym, ◌∙◌}
 use Rattle.std.specs.Prelude.{ℕ, Option}
-use Rattle.safl_word.specs.declared.fault.Fault.{Fault}
-use Rattle.safl_tree.specs.Shown.{shown_definition}
-use Rattle.safl_tree.specs.Tree.{Definition}
-use Rattle.safl_typing.specs.Walk.{limit}
-use Rattle.safl_word.specs.Limits.{functions_max}
 use Rattle.safl_check.proofs.LimitsInOrder.{excess_some}
 use Rattle.safl_check.proofs.limits.find_function_fault.Goals as goal
 

@@ -1,7 +1,5 @@
+use Rattle.safl_check.proofs.Common.{heads, rewritten, shown_definition, shown_definitions}
 use Rattle.std.proofs.Common.{Some, None}
-use Rattle.safl_tree.specs.Shown.{shown_definition, shown_definitions}
-use Rattle.safl_typing.specs.Heads.{heads}
-use Rattle.safl_typing.specs.Rewriting.{rewritten}
 use Rattle.safl_check.proofs.LimitsInOrder.{body_at, lists_of, sites_of, list_stops, sum_stops, searched_next}
 use Rattle.safl_check.proofs.limits.find_limit_fault.Goals as goal
 

@@ -1,5 +1,4 @@
-use Rattle.safl_tree.specs.Shown.{shown_definitions}
-use Rattle.safl_typing.specs.Heads.{heads}
+use Rattle.safl_check.proofs.Common.{heads, shown_definitions}
 use Rattle.safl_check.proofs.LimitsInOrder.{IsSearched}
 use Rattle.safl_check.proofs.limits.find_limit_fault.Given as goal
 

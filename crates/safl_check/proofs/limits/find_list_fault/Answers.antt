@@ -1,11 +1,7 @@
-use Rattle.std.proofs.Common.{◌∙◌, ap, sym, Some}
+use Rattle.safl_check.proofs.Common.{Fault, Some, ap, limit, or_else, shown_parameter, sym, ◌∙◌}
 use Rattle.std.specs.Prelude.{ℕ, Option}
-use Rattle.safl_word.specs.declared.fault.Fault.{Fault}
 use Rattle.safl_tree.specs.Tree.{Parameter}
-use Rattle.safl_tree.specs.Shown.{shown_parameter}
 use Rattle.safl_word.specs.Limits.{bindings_max, params_max}
-use Rattle.safl_term.specs.Readiness.{or_else}
-use Rattle.safl_typing.specs.Walk.{limit}
 use Rattle.safl_check.proofs.LimitsInOrder.{excess_some, excess_none}
 use Rattle.safl_check.proofs.limits.find_list_fault.Goals as goal
 

@@ -1,7 +1,6 @@
+use Rattle.safl_check.proofs.Common.{Fault, bytes_eq}
 use Rattle.std.proofs.Common.{◌∙◌, ap, sym, Some, true, false}
 use Rattle.std.specs.Prelude.{ℕ, List, codes}
-use Rattle.std.specs.Str.{bytes_eq}
-use Rattle.safl_word.specs.declared.fault.Fault.{Fault}
 use Rattle.safl_check.proofs.LimitsInOrder.{main_at}
 use Rattle.safl_check.proofs.limits.find_main_fault.Goals as goal
 

@@ -1,9 +1,6 @@
+use Rattle.safl_check.proofs.Common.{known, option_or, rewritten, shown_tree}
 use Rattle.std.proofs.Common.{◌≡◌, ◌+◌, arith, ap, ◌∙◌}
 use Rattle.std.specs.Prelude.{Option, ℕ, min}
-use Rattle.std.specs.Option.{option_or}
-use Rattle.safl_tree.specs.Shown.{shown_tree}
-use Rattle.safl_typing.specs.PlainHeads.{known}
-use Rattle.safl_typing.specs.Rewriting.{rewritten}
 use Rattle.safl_check.specs.Parts.{own_nodes, own_sites, own_long_let}
 use Rattle.safl_check.proofs.StackFromTop.{walk_smaller, walk_next}
 use Rattle.safl_check.proofs.nodes.measure.Goals as goal

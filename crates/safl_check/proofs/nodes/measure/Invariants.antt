@@ -1,6 +1,4 @@
-use Rattle.safl_tree.specs.Shown.{shown_tree}
-use Rattle.safl_typing.specs.PlainHeads.{known}
-use Rattle.safl_typing.specs.Rewriting.{rewritten}
+use Rattle.safl_check.proofs.Common.{known, rewritten, shown_tree}
 use Rattle.safl_check.specs.Parts.{pending, total_nodes}
 use Rattle.safl_check.proofs.CountsByParts.{IsMeasured}
 use Rattle.safl_check.proofs.nodes.measure.Given as goal

@@ -1,6 +1,4 @@
-use Rattle.std.proofs.Common.{refl}
-use Rattle.safl_tree.specs.Shown.{shown_tree}
-use Rattle.safl_check.specs.Parts.{pending}
+use Rattle.safl_check.proofs.Common.{pending, refl, shown_tree}
 use Rattle.safl_check.proofs.StackFromTop.{pushed}
 use Rattle.safl_check.proofs.nodes.push_all.Goals as goal
 

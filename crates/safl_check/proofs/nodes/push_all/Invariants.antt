@@ -1,6 +1,5 @@
-use Rattle.std.proofs.Common.{◌≡◌, ◌++◌, drop}
+use Rattle.safl_check.proofs.Common.{drop, pending, ◌++◌, ◌≡◌}
 use Rattle.safl_tree.specs.Shown.{shown_trees}
-use Rattle.safl_check.specs.Parts.{pending}
 use Rattle.safl_check.proofs.nodes.push_all.Given as goal
 
 -- those from i on are on the stack

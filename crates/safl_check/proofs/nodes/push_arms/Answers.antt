@@ -1,5 +1,4 @@
-use Rattle.std.proofs.Common.{refl}
-use Rattle.safl_check.specs.Parts.{pending}
+use Rattle.safl_check.proofs.Common.{pending, refl}
 use Rattle.safl_check.proofs.StackFromTop.{arm_pushed}
 use Rattle.safl_check.proofs.nodes.push_arms.Goals as goal
 

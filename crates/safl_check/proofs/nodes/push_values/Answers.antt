@@ -1,7 +1,4 @@
-use Rattle.std.proofs.Common.{refl}
-use Rattle.safl_tree.specs.Shown.{shown_tree}
-use Rattle.safl_tree.specs.declared.tree.Bind.{Bind}
-use Rattle.safl_check.specs.Parts.{pending}
+use Rattle.safl_check.proofs.Common.{Bind, pending, refl, shown_tree}
 use Rattle.safl_check.proofs.StackFromTop.{pushed}
 use Rattle.safl_check.proofs.nodes.push_values.Goals as goal
 

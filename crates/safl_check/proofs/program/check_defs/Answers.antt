@@ -1,5 +1,4 @@
-use Rattle.std.proofs.lemmas.Result.{err_from_is_err_and}
-use Rattle.safl_tree.specs.Shown.{shown_definitions}
+use Rattle.safl_check.proofs.Common.{err_from_is_err_and, shown_definitions}
 use Rattle.safl_check.proofs.OutcomeByParts.{refused_functions, refused_limits, refused_shallow}
 use Rattle.safl_check.proofs.program.check_defs.Goals as goal
 

@@ -1,7 +1,6 @@
+use Rattle.safl_check.proofs.Common.{Function, shown_definitions}
 use Rattle.std.proofs.Common.{◌≤◌, List, length, map, refl, sym, ap, ◌∙◌, subst}
 use Rattle.safl_term.specs.Checked.{CheckedProgram, IsChecked}
-use Rattle.safl_term.specs.declared.checked.Function.{Function}
-use Rattle.safl_tree.specs.Shown.{shown_definitions}
 use Rattle.safl_typing.specs.Forms.{IsFormOf, all_sites, shown_form, shown_function}
 use Rattle.safl_check.proofs.OutcomeByParts.{fault_of_main, form_shown, few_functions}
 use Rattle.safl_check.proofs.program.checked_of.Goals as goal

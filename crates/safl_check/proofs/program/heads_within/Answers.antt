@@ -1,5 +1,4 @@
-use Rattle.std.proofs.Common.{sym, ◌∙◌}
-use Rattle.safl_tree.specs.Shown.{shown_definitions}
+use Rattle.safl_check.proofs.Common.{shown_definitions, sym, ◌∙◌}
 use Rattle.safl_check.proofs.OutcomeByParts.{count_first, limit_next, few}
 use Rattle.safl_check.proofs.program.heads_within.Goals as goal
 

@@ -1,8 +1,8 @@
+use Rattle.safl_check.proofs.Common.{on_ok_weaker, slice_get_read}
 use Rattle.std.proofs.Common.{ap, length, refl, rules}
-use Rattle.std.proofs.lemmas.Option.{slice_get_read}
-use Rattle.std.proofs.lemmas.Result.{on_ok_weaker}
 use Rattle.safl_typing.specs.Forms.{sites_of}
-use Rattle.safl_check.proofs.SitesAdded.{added, smaller_at}
+use Rattle.safl_term.proofs.Smaller.{smaller_at}
+use Rattle.safl_check.proofs.SitesAdded.{added}
 use Rattle.safl_check.proofs.sites.+sites.Goals as goal
 
 pub push_sites-returns-in_ok-push_all-in-Let : goal.push_sites-returns-in_ok-push_all-in-Let

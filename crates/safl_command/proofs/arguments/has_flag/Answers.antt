@@ -1,6 +1,5 @@
+use Rattle.safl_command.proofs.Common.{found_of, option_map_or}
 use Rattle.std.proofs.Common.{◌∙◌, List, ℕ, Option, false, codes, bytes_eq, ap}
-use Rattle.std.specs.Option.{option_map_or}
-use Rattle.clap.specs.Words.{found_of}
 use Rattle.safl_command.proofs.Values.{first_is}
 use Rattle.safl_command.proofs.arguments.has_flag.Goals as goal
 

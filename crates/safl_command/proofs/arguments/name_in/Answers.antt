@@ -1,6 +1,4 @@
-use Rattle.std.proofs.Common.{◌≡◌, ℕ, List, Option, string_bytes, sym, subst}
-use Rattle.std.specs.Prelude.{IfOk, option_map}
-use Rattle.clap.specs.Words.{found_of}
+use Rattle.safl_command.proofs.Common.{IfOk, List, Option, found_of, option_map, string_bytes, subst, sym, ℕ, ◌≡◌}
 use Rattle.safl_command.specs.Values.{filled}
 use Rattle.safl_command.proofs.Values.{value_is}
 use Rattle.safl_command.proofs.arguments.name_in.Goals as goal

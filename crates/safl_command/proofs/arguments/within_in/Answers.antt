@@ -1,5 +1,4 @@
-use Rattle.std.proofs.Common.{sym, ◌∙◌}
-use Rattle.clap.specs.Words.{found_of}
+use Rattle.safl_command.proofs.Common.{found_of, sym, ◌∙◌}
 use Rattle.safl_command.specs.Values.{is_within, number_within}
 use Rattle.safl_command.proofs.Values.{value_is, number_is}
 use Rattle.safl_command.proofs.arguments.within_in.Goals as goal

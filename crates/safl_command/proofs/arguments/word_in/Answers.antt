@@ -1,6 +1,4 @@
-use Rattle.std.proofs.Common.{◌≡◌, ℕ, List, Option, string_bytes, subst}
-use Rattle.std.specs.Prelude.{IfOk, option_map}
-use Rattle.clap.specs.Words.{found_of}
+use Rattle.safl_command.proofs.Common.{IfOk, List, Option, found_of, option_map, string_bytes, subst, ℕ, ◌≡◌}
 use Rattle.safl_command.proofs.Values.{first_is}
 use Rattle.safl_command.proofs.arguments.word_in.Goals as goal
 

@@ -1,10 +1,8 @@
+use Rattle.safl_command.proofs.Common.{ErrorKind, IfOk, false≢true, option_map}
 use Rattle.std.proofs.Common.{◌≡◌, ◌∙◌, ℕ, List, [], map, true, Option, Bor, sym, ap, subst, inl, inr}
-use Rattle.std.proofs.lemmas.Bool.{false≢true}
 use denote.Enum.Bare.{sameb}
 use Rattle.clap.specs.contracts.error.kind.ErrorKind.{the_type}
-use Rattle.clap.specs.declared.error.kind.ErrorKind.{ErrorKind}
 use Rattle.clap.specs.declared.error.kind.ErrorKind.TheVariants as kinds-of
-use Rattle.std.specs.Prelude.{IfOk, option_map}
 use Rattle.clap.specs.Words.{App, Text, app_of, fault_of, subcommand_of, subcommand_rows_of, is_simple, is_simple_and_free, HasKind, kind_of}
 use Rattle.safl_command.specs.Forms.{app}
 use Rattle.safl_command.specs.Commands.{Command, shown_command}

@@ -1,11 +1,6 @@
-use Rattle.std.proofs.Common.{◌&&◌, is_some, List, Option, ap, ◌∙◌, arith}
-use Rattle.std.specs.Prelude.{not}
-use Rattle.safl_word.specs.Words.{Word}
+use Rattle.safl_core.proofs.Common.{List, Option, Word, ap, arith, calls_of, can, is_idle, is_some, not, stage_at, wanted_at, ◌&&◌, ◌∙◌}
 use Rattle.safl_calls.specs.Machine.{Finish, Return, LoopInto, asked, is_unsent}
 use Rattle.safl_evaluate.specs.declared.stage.Stage.{Stage}
-use Rattle.safl_evaluate.specs.Stages.{stage_at}
-use Rattle.safl_core.specs.States.{calls_of}
-use Rattle.safl_core.specs.Testing.{can, wanted_at, is_idle}
 use Rattle.safl_core.proofs.SetsPutRight.{rights_same, rights_is, rights_put}
 use Rattle.safl_core.proofs.LawsOfKept.{waits_test}
 use Rattle.safl_core.proofs.enabled.relist_call.Goals as goal

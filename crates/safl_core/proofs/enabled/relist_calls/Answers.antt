@@ -1,6 +1,5 @@
-use Rattle.std.proofs.Common.{inl, inr, ⊎_elim, sym, ap, ◌∙◌}
+use Rattle.safl_core.proofs.Common.{ap, event_of, inl, inr, sym, ⊎_elim, ◌∙◌}
 use Rattle.safl_core.specs.Picking.{event_number}
-use Rattle.safl_core.specs.Shown.{event_of}
 use Rattle.safl_core.proofs.SetsPutRight.{relists_by, relists_then}
 use Rattle.safl_core.proofs.enabled.relist_calls.Goals as goal
 

@@ -1,12 +1,6 @@
-use Rattle.std.proofs.Common.{is_some, refl, ◌&&◌, List, get_or, ap, ◌∙◌}
-use Rattle.std.specs.Prelude.{not}
-use Rattle.safl_calls.specs.Machine.{Finish, Return, LoopInto, asked}
-use Rattle.safl_term.specs.Readiness.{Answer, NotYet}
+use Rattle.safl_core.proofs.Common.{Answer, Finish, List, LoopInto, NotYet, Return, ap, asked, calls_of, can, get_or, is_idle, is_ready}
+use Rattle.safl_core.proofs.Common.{is_some, loops_to, not, refl, runs, unit_at, ◌&&◌, ◌∙◌}
 use Rattle.safl_core.specs.declared.mode.Mode.{Mode}
-use Rattle.safl_core.specs.Modes.{unit_at}
-use Rattle.safl_core.specs.States.{calls_of}
-use Rattle.safl_core.specs.Testing.{can, is_idle, runs}
-use Rattle.safl_evaluate.specs.Answers.{is_ready, loops_to}
 use Rattle.safl_core.proofs.SetsPutRight.{rights_same, rights_put}
 use Rattle.safl_core.proofs.LawsOfKept.{finish_test, loop_test}
 use Rattle.safl_core.proofs.enabled.relist_member.Goals as goal

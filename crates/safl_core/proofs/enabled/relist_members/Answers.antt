@@ -1,5 +1,4 @@
-use Rattle.std.proofs.Common.{inl, inr, ⊎_elim, arith}
-use Rattle.std.proofs.lemmas.Bool.{cases_eq}
+use Rattle.safl_core.proofs.Common.{arith, cases_eq, inl, inr, ⊎_elim}
 use Rattle.safl_core.proofs.SetsPutRight.{relists_by, relists_then, relists_none, places_after}
 use Rattle.safl_core.proofs.enabled.relist_members.Goals as goal
 

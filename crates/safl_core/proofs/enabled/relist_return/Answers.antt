@@ -1,14 +1,7 @@
-use Rattle.std.proofs.Common.{is_some, refl, ◌≡◌, ◌&&◌, List, sym, ap, ◌∙◌, arith}
-use Rattle.std.specs.Prelude.{not}
-use Rattle.safl_term.specs.Program.{unit_for}
-use Rattle.safl_calls.specs.Machine.{Finish, Return, LoopInto, asked}
+use Rattle.safl_core.proofs.Common.{Finish, List, LoopInto, Nothing, Relists, Return, ap, arith, asked, calls_of, can, delivers_to, is_idle}
+use Rattle.safl_core.proofs.Common.{is_sent, is_some, not, refl, stage_at, sym, unit_at, unit_for, ◌&&◌, ◌∙◌, ◌≡◌}
 use Rattle.safl_core.specs.declared.mode.Mode.{Mode}
 use Rattle.safl_evaluate.specs.declared.stage.Stage.{Stage}
-use Rattle.safl_core.specs.Marking.{Relists, Nothing}
-use Rattle.safl_core.specs.Modes.{unit_at}
-use Rattle.safl_evaluate.specs.Stages.{stage_at}
-use Rattle.safl_core.specs.States.{calls_of}
-use Rattle.safl_core.specs.Testing.{can, is_idle, is_sent, delivers_to}
 use Rattle.safl_core.proofs.SetsPutRight.{rights_same, rights_put, relists_by, relists_none, some_is, none_is}
 use Rattle.safl_core.proofs.LawsOfKept.{return_test}
 use Rattle.safl_core.proofs.enabled.relist_return.Goals as goal

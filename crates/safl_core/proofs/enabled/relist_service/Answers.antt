@@ -1,7 +1,5 @@
-use Rattle.std.proofs.Common.{inl, inr, ⊎_elim, ap, ◌∙◌, List}
+use Rattle.safl_core.proofs.Common.{List, ap, delivered, inl, inr, unit_at, ⊎_elim, ◌∙◌}
 use Rattle.safl_core.specs.declared.mode.Mode.{Mode}
-use Rattle.safl_core.specs.Modes.{unit_at}
-use Rattle.safl_core.specs.Testing.{delivered}
 use Rattle.safl_core.proofs.SetsPutRight.{relists_by, relists_then, places_after}
 use Rattle.safl_core.proofs.enabled.relist_service.Goals as goal
 

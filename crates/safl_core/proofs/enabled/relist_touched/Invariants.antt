@@ -1,6 +1,4 @@
-use Rattle.std.proofs.Common.{◌≤◌, ◌<◌}
-use Rattle.safl_core.specs.Marking.{Relists, Nothing}
-use Rattle.safl_core.specs.States.{calls_of}
+use Rattle.safl_core.proofs.Common.{Nothing, Relists, calls_of, ◌<◌, ◌≤◌}
 use Rattle.safl_core.proofs.enabled.relist_touched.Given as goal
 
 abbrev pub invariant-loop-k : goal.invariant-loop-k

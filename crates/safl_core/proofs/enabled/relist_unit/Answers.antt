@@ -1,10 +1,5 @@
-use Rattle.std.proofs.Common.{is_some, List, ap, ◌∙◌, arith}
-use Rattle.std.specs.Prelude.{not}
-use Rattle.safl_calls.specs.Machine.{Finish, Return, LoopInto, asked}
+use Rattle.safl_core.proofs.Common.{Finish, List, LoopInto, Return, ap, arith, asked, calls_of, can, is_idle, is_some, not, unit_at, ◌∙◌}
 use Rattle.safl_core.specs.declared.mode.Mode.{Mode}
-use Rattle.safl_core.specs.Modes.{unit_at}
-use Rattle.safl_core.specs.States.{calls_of}
-use Rattle.safl_core.specs.Testing.{can, is_idle}
 use Rattle.safl_core.proofs.SetsPutRight.{rights_same, rights_is, rights_put}
 use Rattle.safl_core.proofs.enabled.relist_unit.Goals as goal
 

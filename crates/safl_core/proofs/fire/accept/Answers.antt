@@ -1,10 +1,5 @@
-use Rattle.std.proofs.Common.{ℕ, List, length, Option, Some, refl, sym, ap, ◌∙◌, subst}
-use Rattle.safl_word.specs.Words.{Word}
+use Rattle.safl_core.proofs.Common.{IsKnown, IsPlan, Kept, List, Option, Some, Word, ap, calls_of, length, refl, subst, sym, ℕ, ◌∙◌}
 use Rattle.safl_calls.specs.Machine as core
-use Rattle.safl_evaluate.specs.declared.kept.Kept.{Kept}
-use Rattle.safl_evaluate.specs.Laying.{IsPlan}
-use Rattle.safl_core.specs.Knowing.{IsKnown}
-use Rattle.safl_core.specs.States.{calls_of}
 use Rattle.safl_core.proofs.KeptByEvents.{inv, good, after_accept}
 use Rattle.safl_core.proofs.RemembersByUnits.{recalls_step}
 use Rattle.safl_core.proofs.SeenByUnits.{Local, local_accept}

@@ -1,9 +1,4 @@
-use Rattle.std.proofs.Common.{rules, ℕ, List, length, sym, ap, ◌∙◌, subst}
-use Rattle.safl_calls.specs.Machine.{Finish}
-use Rattle.safl_evaluate.specs.declared.kept.Kept.{Kept}
-use Rattle.safl_evaluate.specs.Laying.{IsPlan}
-use Rattle.safl_core.specs.Spans.{IsSpan}
-use Rattle.safl_core.specs.States.{calls_of}
+use Rattle.safl_core.proofs.Common.{Finish, IsPlan, IsSpan, Kept, List, ap, calls_of, length, rules, subst, sym, ℕ, ◌∙◌}
 use Rattle.safl_core.proofs.KeptByEvents.{inv, good, after_end, finish_in, finish_is}
 use Rattle.safl_core.proofs.RemembersByUnits.{recalls_step}
 use Rattle.safl_core.proofs.SeenByUnits.{local_end}

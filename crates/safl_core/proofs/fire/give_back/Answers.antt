@@ -1,8 +1,5 @@
-use Rattle.std.proofs.Common.{◌≡◌, ◌<◌, ℕ, List, length, Some, sym, ap, ◌∙◌, subst, arith}
+use Rattle.safl_core.proofs.Common.{IsPlan, Kept, List, Some, ap, arith, length, subst, sym, unit_for, ℕ, ◌<◌, ◌∙◌, ◌≡◌}
 use Rattle.safl_calls.specs.Machine as core
-use Rattle.safl_term.specs.Program.{unit_for}
-use Rattle.safl_evaluate.specs.declared.kept.Kept.{Kept}
-use Rattle.safl_evaluate.specs.Laying.{IsPlan}
 use Rattle.safl_core.specs.States.{CanRenew, calls_of}
 use Rattle.safl_core.proofs.KeptByEvents.{inv, good, after_return, return_in, return_is, return_next}
 use Rattle.safl_core.proofs.RemembersByUnits.{recalls_return, can_renew}

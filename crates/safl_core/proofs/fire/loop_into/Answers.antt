@@ -1,9 +1,4 @@
-use Rattle.std.proofs.Common.{ℕ, List, length, refl, ap, ◌∙◌, rules, subst, sym}
-use Rattle.safl_calls.specs.Machine.{LoopInto}
-use Rattle.safl_evaluate.specs.declared.kept.Kept.{Kept}
-use Rattle.safl_evaluate.specs.Laying.{IsPlan}
-use Rattle.safl_core.specs.Spans.{IsSpan}
-use Rattle.safl_core.specs.States.{calls_of}
+use Rattle.safl_core.proofs.Common.{IsPlan, IsSpan, Kept, List, LoopInto, ap, calls_of, length, refl, rules, subst, sym, ℕ, ◌∙◌}
 use Rattle.safl_core.proofs.KeptByEvents.{inv, good, after_end, looping, loop_is}
 use Rattle.safl_core.proofs.RemembersByUnits.{recalls_step}
 use Rattle.safl_core.proofs.SeenByUnits.{local_end}

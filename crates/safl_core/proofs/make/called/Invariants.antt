@@ -1,5 +1,4 @@
-use Rattle.std.proofs.Common.{◌≡◌, ◌<◌, ℕ, length, get_or}
-use Rattle.safl_term.specs.Program.{unit_for}
+use Rattle.safl_core.proofs.Common.{get_or, length, unit_for, ℕ, ◌<◌, ◌≡◌}
 use Rattle.safl_core.proofs.make.called.Given as goal
 
 abbrev pub invariant-loop-k : goal.invariant-loop-k

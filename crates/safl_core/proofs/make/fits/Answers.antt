@@ -1,5 +1,4 @@
-use Rattle.std.proofs.Common.{sym, ap, ◌∙◌, arith}
-use Rattle.std.specs.Prelude.{slice_get}
+use Rattle.safl_core.proofs.Common.{ap, arith, slice_get, sym, ◌∙◌}
 use Rattle.safl_term.specs.Program.{arity}
 use Rattle.safl_core.proofs.KeptAtFirst.{fits_count, fits_off, fits_more, fits_all}
 use Rattle.safl_core.proofs.make.fits.Goals as goal

@@ -1,6 +1,5 @@
-use Rattle.std.proofs.Common.{◌≡◌, ℕ, length}
+use Rattle.safl_core.proofs.Common.{length, unit_at, ℕ, ◌≡◌}
 use Rattle.safl_calls.specs.Machine as core
-use Rattle.safl_core.specs.Modes.{unit_at}
 use Rattle.safl_core.proofs.make.idle.Given as goal
 
 abbrev pub invariant-loop-made : goal.invariant-loop-made

@@ -1,6 +1,5 @@
-use Rattle.std.proofs.Common.{◌≡◌, ℕ, length}
+use Rattle.safl_core.proofs.Common.{length, stage_at, ℕ, ◌≡◌}
 use Rattle.safl_term.specs.Readiness as plain
-use Rattle.safl_evaluate.specs.Stages.{stage_at}
 use Rattle.safl_core.proofs.make.unsent.Given as goal
 
 abbrev pub invariant-loop-made : goal.invariant-loop-made

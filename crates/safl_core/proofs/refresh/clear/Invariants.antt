@@ -1,6 +1,5 @@
+use Rattle.safl_core.proofs.Common.{IsSpan, Program}
 use Rattle.std.proofs.Common.{◌≡◌, ℕ, ◌<◌, ◌≤◌, ◌==◌, None, cond, get_or}
-use Rattle.safl_term.specs.Program.{Program}
-use Rattle.safl_core.specs.Spans.{IsSpan}
 use Rattle.safl_core.proofs.refresh.clear.Given as goal
 
 abbrev pub invariant-loop-k : goal.invariant-loop-k

@@ -1,23 +1,15 @@
+use Rattle.safl_core.proofs.Common.{HasRoom, Word, back_at, body_at, get_or_read, nodes, numbered, unit_at, widths_len}
 use Rattle.std.proofs.Common.{◌≡◌, ℕ, ◌+◌, ◌≤◌, length, take, arith, rules, List, slice_set, refl, sym, ap, ◌∙◌, subst}
-use Rattle.std.proofs.lemmas.List.{get_or_read}
 use Rattle.std.specs.Vec.{with_items}
-use Rattle.safl_word.specs.Words.{Word}
 use Rattle.safl_term.specs.Readiness.{answer}
-use Rattle.safl_term.specs.Sizes.{nodes}
 use Rattle.safl_term.specs.Tree.{shown_term}
 use Rattle.safl_calls.specs.Machine as core
-use Rattle.safl_calls.proofs.FromWellFormed.{numbered}
 use Rattle.safl_core.specs.declared.mode.Mode.{Mode}
 use Rattle.safl_evaluate.specs.declared.stage.Stage.{Stage}
-use Rattle.safl_core.specs.Knowing.{HasRoom}
-use Rattle.safl_core.specs.Modes.{unit_at}
-use Rattle.safl_evaluate.specs.Laying.{body_at}
-use Rattle.safl_evaluate.specs.Stages.{back_at}
 use Rattle.safl_evaluate.proofs.AnswersByParts.{answer_is}
 use Rattle.safl_evaluate.proofs.AsksAlong.{asks_none}
 use Rattle.safl_core.proofs.KeptByRefresh.{body_can}
 use Rattle.safl_evaluate.proofs.Refilled.{refilled, refilled_long}
-use Rattle.safl_evaluate.proofs.RunsByParts.{widths_len}
 use Rattle.safl_core.proofs.RemembersByUnits as unit
 use Rattle.safl_core.proofs.refresh.evaluated.Goals as goal
 

@@ -1,11 +1,7 @@
+use Rattle.safl_core.proofs.Common.{Word, back_at, calls_of, numbered, refilled}
 use Rattle.std.proofs.Common.{ℕ, ◌≡◌, ◌<◌, ◌≤◌, length, List, Option, None, get_or, refl, sym, ap, ◌∙◌, arith}
-use Rattle.safl_word.specs.Words.{Word}
 use Rattle.safl_calls.specs.Machine as core
-use Rattle.safl_calls.proofs.FromWellFormed.{numbered}
-use Rattle.safl_evaluate.specs.Stages.{back_at}
-use Rattle.safl_core.specs.States.{calls_of}
 use Rattle.safl_core.proofs.KeptByRefresh.{refreshed, others_stay, cleared_unasked, cleared_here, cleared_off}
-use Rattle.safl_evaluate.proofs.Refilled.{refilled}
 use Rattle.safl_core.proofs.RemembersByUnits.{remembers_still}
 use Rattle.safl_core.proofs.StatesByEvents.{known_as}
 use Rattle.safl_core.proofs.refresh.refresh.Goals as goal

@@ -1,9 +1,7 @@
+use Rattle.safl_core.proofs.Common.{Word, back_at, calls_of}
 use Rattle.std.proofs.Common.{ℕ, ◌≡◌, ◌<◌, ◌≤◌, List, Option, None, Some, length, get_or, refl, sym, ap, ◌∙◌, subst, arith}
-use Rattle.safl_word.specs.Words.{Word}
 use Rattle.safl_calls.specs.Machine as core
-use Rattle.safl_evaluate.specs.Stages.{back_at}
 use Rattle.safl_core.specs.Remembering.{MayRenew}
-use Rattle.safl_core.specs.States.{calls_of}
 use Rattle.safl_core.proofs.KeptByRefresh.{refreshed}
 use Rattle.safl_core.proofs.RemembersByUnits.{remembers_as}
 use Rattle.safl_core.proofs.StatesByEvents.{known_as}

@@ -1,10 +1,7 @@
+use Rattle.safl_core.proofs.Common.{IsSome, Word, calls_of, unit_at}
 use Rattle.std.proofs.Common.{◌≡◌, ◌<◌, List, Option, length, get_or, None, Some, refl, sym, ap, ◌∙◌, subst, rules, arith}
-use Rattle.std.specs.Prelude.{IsSome}
-use Rattle.safl_word.specs.Words.{Word}
 use Rattle.safl_calls.specs.Machine as core
 use Rattle.safl_evaluate.specs.declared.stage.Stage.TheVariants.{Sent}
-use Rattle.safl_core.specs.Modes.{unit_at}
-use Rattle.safl_core.specs.States.{calls_of}
 use Rattle.safl_core.proofs.KeptByEvents.{accept_wanted, accept_words}
 use Rattle.safl_core.proofs.LawsOfKept.{accept_within}
 use Rattle.safl_core.proofs.WritesAreSteps.{unit_put, stage_put, state_is}

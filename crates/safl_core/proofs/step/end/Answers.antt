@@ -1,10 +1,6 @@
-use Rattle.std.proofs.Common.{◌<◌, List, length, refl, ap, ◌∙◌, rules, arith}
-use Rattle.std.proofs.Math.Path.{fun_ext}
+use Rattle.safl_core.proofs.Common.{List, ap, arith, fun_ext, length, refilled, refl, rules, stage_at, unit_at, ◌<◌, ◌∙◌}
 use Rattle.safl_calls.specs.Machine as core
 use Rattle.safl_evaluate.specs.declared.stage.Stage.{Stage}
-use Rattle.safl_core.specs.Modes.{unit_at}
-use Rattle.safl_evaluate.specs.Stages.{stage_at}
-use Rattle.safl_evaluate.proofs.Refilled.{refilled}
 use Rattle.safl_core.proofs.WritesAreSteps.{unit_put, state_is}
 use Rattle.safl_core.proofs.step.end.Goals as goal
 

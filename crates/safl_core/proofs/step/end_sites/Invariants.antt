@@ -1,6 +1,5 @@
-use Rattle.std.proofs.Common.{◌≡◌, ℕ, ◌<◌, ◌≤◌}
+use Rattle.safl_core.proofs.Common.{stage_at, ℕ, ◌<◌, ◌≡◌, ◌≤◌}
 use Rattle.safl_calls.specs.Machine.{ended}
-use Rattle.safl_evaluate.specs.Stages.{stage_at}
 use Rattle.safl_core.proofs.step.end_sites.Given as goal
 
 abbrev pub invariant-loop-k : goal.invariant-loop-k

@@ -1,7 +1,6 @@
-use Rattle.std.proofs.Common.{◌<◌, length, refl, ap, ◌∙◌, rules, arith}
+use Rattle.safl_core.proofs.Common.{ap, arith, length, refl, rules, unit_at, ◌<◌, ◌∙◌}
 use Rattle.safl_calls.specs.Machine as core
 use Rattle.safl_evaluate.specs.declared.stage.Stage.TheVariants.{Returned}
-use Rattle.safl_core.specs.Modes.{unit_at}
 use Rattle.safl_core.proofs.WritesAreSteps.{unit_put, stage_put, state_is}
 use Rattle.safl_core.proofs.step.give_back.Goals as goal
 

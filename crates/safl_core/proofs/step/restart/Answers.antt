@@ -1,15 +1,9 @@
+use Rattle.safl_core.proofs.Common.{NotYet, args_given, fun_ext, get_or_read, idle_mode, mode_of, refilled, stage_at, unit_at}
 use Rattle.std.proofs.Common.{◌≡◌, ◌<◌, List, length, get_or, refl, ap, ◌∙◌, rules, arith}
-use Rattle.std.proofs.Math.Path.{fun_ext}
-use Rattle.std.proofs.lemmas.List.{get_or_read}
 use Rattle.safl_calls.specs.Machine as core
-use Rattle.safl_term.specs.Readiness.{NotYet}
 use Rattle.safl_core.specs.declared.mode.Mode.{Mode}
 use Rattle.safl_evaluate.specs.declared.stage.Stage.{Stage}
-use Rattle.safl_core.specs.Modes.{idle_mode, mode_of, unit_at}
 use Rattle.safl_core.specs.Shown.{serves_of}
-use Rattle.safl_evaluate.specs.Answers.{args_given}
-use Rattle.safl_evaluate.specs.Stages.{stage_at}
-use Rattle.safl_evaluate.proofs.Refilled.{refilled}
 use Rattle.safl_core.proofs.WritesAreSteps.{unit_put, state_is}
 use Rattle.safl_core.proofs.step.restart.Goals as goal
 

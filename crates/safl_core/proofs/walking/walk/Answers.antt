@@ -1,7 +1,5 @@
+use Rattle.safl_core.proofs.Common.{IsSome, back_word, event_of, state}
 use Rattle.std.proofs.Common.{◌≡◌, ◌⊎◌, inl, inr, refl, ◌∙◌, arith}
-use Rattle.std.specs.Prelude.{IsSome}
-use Rattle.safl_term.specs.Readiness.{back_word}
-use Rattle.safl_core.specs.Shown.{event_of, state}
 use Rattle.safl_core.proofs.WalksByTurns.{first_turn, one_turn, short_is, short_end}
 use Rattle.safl_core.proofs.walking.walk.Goals as goal
 use Rattle.safl_core.proofs.walking.walk.Goals.{else-loop-turn-test, then-loop-turn-test+in_default}

@@ -1,5 +1,4 @@
-use Rattle.std.proofs.Common.{◌≡◌, ◌+◌}
-use Rattle.safl_core.specs.Shown.{state}
+use Rattle.safl_core.proofs.Common.{state, ◌+◌, ◌≡◌}
 use Rattle.safl_core.specs.Walking.{Walked}
 use Rattle.safl_core.proofs.walking.walk.Given as goal
 

@@ -1,9 +1,6 @@
+use Rattle.safl_evaluate.proofs.Common.{back_at, nil_from_length, shown_term, shown_terms, some_nodes}
 use Rattle.std.proofs.Common.{rules, ◌≡◌, ◌<◌, List, length, take, drop, ◌∷◌, [], slice_set, refl, sym, ap, ◌∙◌, arith}
-use Rattle.std.proofs.lemmas.List.{nil_from_length}
-use Rattle.safl_term.specs.Tree.{shown_term, shown_terms}
 use Rattle.safl_term.specs.declared.term.Term as declared
-use Rattle.safl_term.proofs.PlainTerms.{some_nodes}
-use Rattle.safl_evaluate.specs.Stages.{back_at}
 use Rattle.safl_evaluate.proofs.AnswersByParts as step
 use Rattle.safl_evaluate.proofs.AnswersByParts.{forest_nodes, one_item, two_items}
 use Rattle.safl_evaluate.proofs.PlainByParts as part

@@ -1,6 +1,4 @@
-use Rattle.std.proofs.Common.{◌+◌, ◌*◌}
-use Rattle.safl_term.specs.Sizes.{nodes, nodes_in}
-use Rattle.safl_term.specs.Tree.{shown_term, shown_terms}
+use Rattle.safl_evaluate.proofs.Common.{nodes, nodes_in, shown_term, shown_terms, ◌*◌, ◌+◌}
 use Rattle.safl_evaluate.proofs.compute.+compute.Given as goal
 
 abbrev pub decreases-compute : goal.decreases-compute

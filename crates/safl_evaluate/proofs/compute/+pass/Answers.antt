@@ -1,7 +1,6 @@
+use Rattle.safl_evaluate.proofs.Common.{nil_from_length, shown_terms}
 use Rattle.std.proofs.Common.{rules, ◌≡◌, ◌<◌, List, length, ◌∷◌, [], refl, sym, ap, arith}
-use Rattle.safl_term.specs.Tree.{shown_terms}
 use Rattle.safl_term.specs.declared.term.Term as declared
-use Rattle.std.proofs.lemmas.List.{nil_from_length}
 use Rattle.safl_evaluate.proofs.PlainByParts as part
 use Rattle.safl_evaluate.proofs.PlainByParts.{compute_all_is, passes_is}
 use Rattle.safl_evaluate.proofs.compute.+pass.Goals as goal

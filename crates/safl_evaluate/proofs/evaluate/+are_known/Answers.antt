@@ -1,8 +1,6 @@
+use Rattle.safl_evaluate.proofs.Common.{back_at, nil_from_length, shown_term, shown_terms}
 use Rattle.std.proofs.Common.{rules, ◌≡◌, ◌<◌, ◌∷◌, [], List, Some, take, drop, length, refl, sym, ap, ◌∙◌, arith}
-use Rattle.std.proofs.lemmas.List.{nil_from_length}
-use Rattle.safl_term.specs.Tree.{shown_term, shown_terms}
 use Rattle.safl_term.specs.declared.term.Term as declared
-use Rattle.safl_evaluate.specs.Stages.{back_at}
 use Rattle.safl_evaluate.proofs.AnswersByParts as step
 use Rattle.safl_evaluate.proofs.LooksByParts as part
 use Rattle.safl_evaluate.proofs.LooksByParts.{look_all_is, look_all_at}

@@ -1,12 +1,8 @@
+use Rattle.safl_evaluate.proofs.Common.{Word, back_at, place, shown_term, some_nodes}
 use Rattle.std.proofs.Common.{rules, ◌≡◌, ℕ, List, length, take, drop, Some, false, refl, sym, ap, ◌∙◌, arith, ⊎_elim}
-use Rattle.safl_word.specs.Words.{Word}
 use Rattle.safl_term.specs.Readiness.{answer, ready_from, word_of, Ready}
 use Rattle.safl_term.specs.Nodes.{shown_node}
-use Rattle.safl_term.specs.Tree.{shown_term}
-use Rattle.safl_term.proofs.PlainTerms.{some_nodes}
-use Rattle.safl_evaluate.specs.Laying.{place}
 use Rattle.safl_evaluate.specs.Plain.{plain_body}
-use Rattle.safl_evaluate.specs.Stages.{back_at}
 use Rattle.safl_evaluate.proofs.AsksAlong.{asks_none, asks_both}
 use Rattle.safl_evaluate.proofs.PlainByParts.{says, anew_is, anew_as}
 use Rattle.safl_evaluate.proofs.RunsByParts as may

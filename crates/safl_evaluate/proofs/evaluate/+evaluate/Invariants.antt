@@ -1,5 +1,4 @@
-use Rattle.safl_term.specs.Sizes.{nodes}
-use Rattle.safl_term.specs.Tree.{shown_term}
+use Rattle.safl_evaluate.proofs.Common.{nodes, shown_term}
 use Rattle.safl_evaluate.proofs.evaluate.+evaluate.Given as goal
 
 abbrev pub decreases-evaluate : goal.decreases-evaluate

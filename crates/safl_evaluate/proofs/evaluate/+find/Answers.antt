@@ -1,14 +1,7 @@
+use Rattle.safl_evaluate.proofs.Common.{Asks, Wants, Word, back_at, nil_from_length, place, shown_term, shown_terms, some_nodes, word_of}
 use Rattle.std.proofs.Common.{rules, ◌≡◌, ℕ, ◌<◌, List, length, take, drop, cond, Some, None, Bool, ◌∷◌, [], slice_set, refl, sym, ap, ◌∙◌, subst, arith}
-use Rattle.std.proofs.lemmas.List.{nil_from_length}
-use Rattle.safl_word.specs.Words.{Word}
-use Rattle.safl_term.specs.Readiness.{word_of}
 use Rattle.safl_term.specs.Terms as plain
-use Rattle.safl_term.specs.Tree.{shown_term, shown_terms}
 use Rattle.safl_term.specs.declared.term.Term as declared
-use Rattle.safl_term.proofs.PlainTerms.{some_nodes}
-use Rattle.safl_evaluate.specs.Asking.{Asks}
-use Rattle.safl_evaluate.specs.Stages.{back_at}
-use Rattle.safl_evaluate.specs.declared.wants.Wants.{Wants}
 use Rattle.safl_evaluate.proofs.AsksAlong.{asks_none, asks_both, asks_one}
 use Rattle.safl_evaluate.proofs.AnswersByParts as step
 use Rattle.safl_evaluate.proofs.AnswersByParts.{forest_nodes, one_item, two_items}
@@ -18,7 +11,6 @@ use Rattle.safl_evaluate.proofs.LooksWhole as whole
 use Rattle.safl_evaluate.proofs.LooksWhole.{finds_is, finds_with, finds_all_is}
 use Rattle.safl_evaluate.proofs.PlainByParts.{says, anew_is}
 use Rattle.safl_evaluate.proofs.RunsByParts as may
-use Rattle.safl_evaluate.specs.Laying.{place}
 use Rattle.safl_evaluate.proofs.evaluate.+find.Goals as goal
 use Rattle.safl_evaluate.proofs.evaluate.+find.Goals.{look-then-values-2, look-else-values-2}
 

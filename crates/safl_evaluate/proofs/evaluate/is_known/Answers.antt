@@ -1,7 +1,6 @@
+use Rattle.safl_evaluate.proofs.Common.{back_at, word_of}
 use Rattle.std.proofs.Common.{◌≡◌, Some, take, refl, sym, ap, ◌∙◌, arith}
 use Rattle.std.proofs.lemmas.List.{take-set}
-use Rattle.safl_term.specs.Readiness.{word_of}
-use Rattle.safl_evaluate.specs.Stages.{back_at}
 use Rattle.safl_evaluate.proofs.AnswersByParts as step
 use Rattle.safl_evaluate.proofs.LooksWhole as whole
 use Rattle.safl_evaluate.proofs.LooksWhole.{finds_is}

@@ -1,8 +1,5 @@
+use Rattle.safl_evaluate.proofs.Common.{nil_from_length, nodes, nodes_in, shown_term, shown_terms, some_nodes}
 use Rattle.std.proofs.Common.{rules, ◌≡◌, ◌+◌, ◌*◌, ◌<◌, refl, ap, arith}
-use Rattle.std.proofs.lemmas.List.{nil_from_length}
-use Rattle.safl_term.specs.Sizes.{nodes, nodes_in}
-use Rattle.safl_term.specs.Tree.{shown_term, shown_terms}
-use Rattle.safl_term.proofs.PlainTerms.{some_nodes}
 use Rattle.safl_evaluate.proofs.LaidByParts as part
 use Rattle.safl_evaluate.proofs.places.+lay.Goals as goal
 

@@ -1,9 +1,6 @@
+use Rattle.safl_evaluate.proofs.Common.{Laid, Place, SameOutside, nodes, shown_term}
 use Rattle.std.proofs.Common.{◌≡◌, ℕ, suc, ◌+◌, ◌<◌, List, length, rules, sym, ap, ◌∙◌, subst, slice_set, arith}
-use Rattle.safl_term.specs.Sizes.{nodes}
 use Rattle.safl_term.specs.Terms.{Term}
-use Rattle.safl_term.specs.Tree.{shown_term}
-use Rattle.safl_evaluate.specs.declared.places.Place.{Place}
-use Rattle.safl_evaluate.specs.Laying.{Laid, SameOutside}
 use Rattle.safl_evaluate.proofs.Refilled.{refilled, refilled_long}
 use Rattle.safl_evaluate.proofs.PlansByBodies.{ArePlanned, planned_none, planned_next, before_next, before_most}
 use Rattle.safl_evaluate.proofs.places.planned.Goals as goal

@@ -1,10 +1,8 @@
+use Rattle.safl_interpreter.proofs.Common.{Enter, figures, shown_term, shown_turn}
 use Rattle.std.proofs.Common.{◌<◌, refl, sym, ap, ◌∙◌, subst, arith}
 use Rattle.safl_term.proofs.HeldByChecked.{main_is_last}
-use Rattle.safl_term.specs.Tree.{shown_term}
 use Rattle.safl_interpreter.specs.Accounts.{Account, shown_account, opening, counted, ready}
-use Rattle.safl_interpreter.specs.Comes.{figures}
 use Rattle.safl_interpreter.specs.Rounds.{IsRound, shown_stack}
-use Rattle.safl_interpreter.specs.Turns.{shown_turn, Enter}
 use Rattle.safl_interpreter.proofs.Counting.{counted_calls}
 use Rattle.safl_interpreter.proofs.Figured as on
 use Rattle.safl_interpreter.proofs.evaluation.measure.Goals as goal

@@ -1,10 +1,9 @@
+use Rattle.safl_interpreter.proofs.Common.{Enter, Figures, shown_turn}
 use Rattle.std.proofs.Common.{◌+◌, ◌-◌, ◌*◌, []}
 use Rattle.std.specs.Prelude.{◌↔◌}
 use Rattle.safl_interpreter.specs.Accounts.{opening, shown_account}
-use Rattle.safl_interpreter.specs.Comes.{Figures}
 use Rattle.safl_interpreter.specs.Rounds.{IsState, Ends, shown_stack, work}
 use Rattle.safl_interpreter.specs.Sound.{call_work}
-use Rattle.safl_interpreter.specs.Turns.{Enter, shown_turn}
 use Rattle.safl_interpreter.proofs.evaluation.measure.Given as goal
 
 abbrev pub invariant-loop-stack : goal.invariant-loop-stack

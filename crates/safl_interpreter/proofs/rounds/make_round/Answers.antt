@@ -1,12 +1,10 @@
+use Rattle.safl_interpreter.proofs.Common.{Figures, shown_account, shown_term, shown_terms}
 use Rattle.std.proofs.Common.{◌≡◌, ◌<◌, ◌≤◌, ◌∷◌, refl, sym, ap, ◌∙◌, subst, arith}
-use Rattle.safl_term.specs.Tree.{shown_term, shown_terms}
-use Rattle.safl_interpreter.specs.Accounts.{shown_account}
 use Rattle.safl_interpreter.specs.Sound.{may_call, IsStep}
 use Rattle.safl_interpreter.specs.Turns.{shown_then, shown_frame, shown_turn, Enter, Within, Leave}
 use Rattle.safl_interpreter.specs.Rounds.{IsState, shown_stack, Ends}
 use Rattle.safl_interpreter.proofs.Rounding as on
 use Rattle.safl_interpreter.proofs.Finishing.{ended_as}
-use Rattle.safl_interpreter.specs.Comes.{Figures}
 use Rattle.safl_interpreter.proofs.rounds.make_round.Goals as goal
 use Rattle.safl_interpreter.proofs.rounds.make_round.Goals.{else-account-budget-via-then-account-budget+else-needs_call, else-account-budget-via-else-account-budget}
 

@@ -1,8 +1,5 @@
+use Rattle.safl_interpreter.proofs.Common.{HasWidth, Word, get_or_read, no_word, shown_terms, widths}
 use Rattle.std.proofs.Common.{refl, ap, ◌∙◌, subst, arith}
-use Rattle.std.proofs.lemmas.List.{get_or_read}
-use Rattle.safl_word.specs.Words.{Word, no_word, widths}
-use Rattle.safl_term.specs.Tree.{shown_terms}
-use Rattle.safl_term.specs.WellFormed.{HasWidth}
 use Rattle.safl_interpreter.specs.Turns.{Leave}
 use Rattle.safl_interpreter.proofs.Entering as on
 use Rattle.safl_interpreter.proofs.steps.enter.Goals as goal

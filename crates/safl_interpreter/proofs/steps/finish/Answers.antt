@@ -1,11 +1,8 @@
+use Rattle.safl_interpreter.proofs.Common.{Word, choose, get_or_read, no_word, shown_account, shown_term, slot, widths}
 use Rattle.std.proofs.Common.{◌≡◌, ℕ, ◌<◌, ◌+◌, ◌++◌, length, Option, Some, sym, ap, ◌∙◌, subst, arith}
-use Rattle.std.proofs.lemmas.List.{get_or_read}
 use Rattle.std.specs.Prelude.{IsSome}
-use Rattle.safl_word.specs.Words.{Word, no_word, slot, choose, widths}
 use Rattle.safl_word.specs.Primitives.{result_width}
-use Rattle.safl_term.specs.Tree.{shown_term}
 use Rattle.safl_term.proofs.HeldByChecked.{few_nodes}
-use Rattle.safl_interpreter.specs.Accounts.{shown_account}
 use Rattle.safl_interpreter.specs.Sound.{FitsFrame, IsStep}
 use Rattle.safl_interpreter.specs.Turns.{shown_then, shown_frame, applies, Enter, Within, Leave, Choose, Operate, Frame}
 use Rattle.safl_interpreter.proofs.Finishing as on

@@ -1,9 +1,8 @@
+use Rattle.safl_labels.proofs.Common.{shown_term, shown_terms, some_nodes}
 use Rattle.std.proofs.Common.{rules, List, sym, subst}
 use Rattle.std.proofs.lemmas.List.{nil_from_length}
 use Rattle.safl_calls.specs.Labels.{IsPlainTerm, p_const, p_var, p_op, p_if, p_let, ArePlain, p_nil, p_cons}
 use Rattle.safl_term.specs.declared.term.Term as declared
-use Rattle.safl_term.specs.Tree.{shown_term, shown_terms}
-use Rattle.safl_term.proofs.PlainTerms.{some_nodes}
 use Rattle.safl_labels.proofs.plain.+plain.Goals as goal
 
 pub are_plain-are_plain-requires : goal.are_plain-are_plain-requires

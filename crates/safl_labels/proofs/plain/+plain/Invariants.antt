@@ -1,6 +1,4 @@
-use Rattle.std.proofs.Common.{◌+◌, ◌*◌}
-use Rattle.safl_term.specs.Sizes.{nodes, nodes_in}
-use Rattle.safl_term.specs.Tree.{shown_term, shown_terms}
+use Rattle.safl_labels.proofs.Common.{nodes, nodes_in, shown_term, shown_terms, ◌*◌, ◌+◌}
 use Rattle.safl_labels.proofs.plain.+plain.Given as goal
 
 abbrev pub decreases-is_plain : goal.decreases-is_plain

@@ -1,6 +1,4 @@
-use Rattle.std.proofs.Common.{rules}
-use Rattle.safl_term.specs.Tree.{shown_term}
-use Rattle.safl_term.proofs.PlainTerms.{some_nodes}
+use Rattle.safl_labels.proofs.Common.{rules, shown_term, some_nodes}
 use Rattle.safl_labels.proofs.plain.+reading.Goals as goal
 
 pub read_secret-read_secret-requires : goal.read_secret-read_secret-requires

@@ -1,16 +1,11 @@
+use Rattle.safl_labels.proofs.Common.{AreAllLike, Likeness, Primitive, nodes, nodes_in, shown_if, shown_term, shown_terms, true≢false}
 use Rattle.std.proofs.Common.{rules, ◌≡◌, ◌+◌, ◌*◌, ◌<◌, [], ◌∷◌, ◌++◌, Bool, true, false, take, length, refl, sym, ap, subst, ◌∙◌, arith}
-use Rattle.std.proofs.lemmas.Bool.{true≢false}
 use Rattle.std.proofs.lemmas.Option.{slice_get_read}
 use Rattle.safl_calls.specs.Labels.{t_plain, t_nil, AllTwins}
-use Rattle.safl_term.specs.Sizes.{nodes, nodes_in}
 use Rattle.safl_term.specs.Terms.{Op}
-use Rattle.safl_term.specs.Tree.{shown_term, shown_terms}
 use Rattle.std.specs.Option.{IfSome}
-use Rattle.safl_word.specs.declared.primitive.Primitive.{Primitive}
-use Rattle.safl_labels.specs.declared.likeness.Likeness.{Likeness}
 use Rattle.safl_labels.specs.Likeness.{IsLike, is_word_of, least_of}
 use Rattle.safl_labels.specs.Shown.{shown_labels}
-use Rattle.safl_labels.specs.Walks.{AreAllLike, shown_if}
 use Rattle.safl_labels.proofs.Alike
 use Rattle.safl_labels.proofs.Lists.{node_at, twins_at, all_more}
 use Rattle.safl_labels.proofs.twins.+twins.Goals as goal

@@ -1,7 +1,5 @@
+use Rattle.safl_labels.proofs.Common.{AreAllLike, nodes, nodes_in, shown_if, shown_term, shown_terms}
 use Rattle.std.proofs.Common.{◌≡◌, false, ◌+◌, ◌*◌, take}
-use Rattle.safl_term.specs.Sizes.{nodes, nodes_in}
-use Rattle.safl_term.specs.Tree.{shown_term, shown_terms}
-use Rattle.safl_labels.specs.Walks.{AreAllLike, shown_if}
 use Rattle.safl_labels.proofs.twins.+twins.Given as goal
 
 abbrev pub decreases-compare : goal.decreases-compare

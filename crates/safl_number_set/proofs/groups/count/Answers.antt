@@ -1,7 +1,6 @@
+use Rattle.safl_number_set.proofs.Common.{Shifts, get_or_read}
 use Rattle.std.proofs.Common.{◌≡◌, ◌/◌, ◌<◌, ◌≤◌, length, get_or, cond, sym, subst, ⊎_elim, arith}
-use Rattle.std.proofs.lemmas.List.{get_or_read}
 use Rattle.std.proofs.lemmas.Bool.{cases_lt}
-use Rattle.safl_number_set.specs.Tallies.{Shifts}
 use Rattle.safl_number_set.proofs.CountedGroups.{Halfway, half_first, half_last, half_next, half_rises, sums_fit, share_least}
 use Rattle.safl_number_set.proofs.groups.count.Goals as goal
 

@@ -1,5 +1,4 @@
-use Rattle.std.proofs.Common.{◌≡◌, ◌*◌, ◌<◌, length, get_or, sym, ap, ◌∙◌, arith}
-use Rattle.std.proofs.lemmas.List.{get_or_read}
+use Rattle.safl_number_set.proofs.Common.{ap, arith, get_or, get_or_read, length, sym, ◌*◌, ◌<◌, ◌∙◌, ◌≡◌}
 use Rattle.safl_number_set.proofs.CountedGroups.{counted_at, counted_bits}
 use Rattle.safl_number_set.proofs.groups.counts.Goals as goal
 

@@ -1,8 +1,6 @@
-use Rattle.std.proofs.Common.{◌≡◌, ◌≤◌, ℕ, List, length, take, ap, arith}
-use Rattle.std.specs.Prelude.{sum}
+use Rattle.safl_number_set.proofs.Common.{List, ap, arith, counted, length, shown_groups, sum, take, ℕ, ◌≡◌, ◌≤◌}
 use Rattle.std.proofs.lemmas.List.{take_all}
 use Rattle.std.proofs.lemmas.List.Sums.{sum_by-take-le}
-use Rattle.safl_number_set.specs.Groups.{counted, shown_groups}
 use Rattle.safl_number_set.proofs.SumsOfParts.{sum_bits}
 use Rattle.safl_number_set.proofs.CountedGroups.{counted_bits, counted_long}
 use Rattle.safl_number_set.proofs.groups.find_counted.Goals as goal

@@ -1,6 +1,4 @@
-use Rattle.std.proofs.Common.{◌≡◌, ◌≤◌, take}
-use Rattle.std.specs.Prelude.{sum}
-use Rattle.safl_number_set.specs.Groups.{counted, shown_groups}
+use Rattle.safl_number_set.proofs.Common.{counted, shown_groups, sum, take, ◌≡◌, ◌≤◌}
 use Rattle.safl_number_set.proofs.groups.find_counted.Given as goal
 
 abbrev pub invariant-loop-k : goal.invariant-loop-k

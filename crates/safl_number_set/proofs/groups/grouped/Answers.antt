@@ -1,5 +1,4 @@
-use Rattle.std.proofs.Common.{◌≡◌, ℕ, List, length, replicate, ap, ◌∙◌, subst, arith}
-use Rattle.safl_number_set.specs.Linking.{AreLinked}
+use Rattle.safl_number_set.proofs.Common.{AreLinked, List, ap, arith, length, replicate, subst, ℕ, ◌∙◌, ◌≡◌}
 use Rattle.safl_number_set.proofs.FreshGroups.{fresh_grouped}
 use Rattle.safl_number_set.proofs.groups.grouped.Goals as goal
 

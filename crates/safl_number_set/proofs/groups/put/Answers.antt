@@ -1,9 +1,6 @@
+use Rattle.safl_number_set.proofs.Common.{get_or_read, part, shift_of, sum}
 use Rattle.std.proofs.Common.{◌≡◌, ℕ, ◌/◌, ◌<◌, List, length, set, get_or, sym, ap, ◌∙◌, arith, length-set}
-use Rattle.std.specs.Prelude.{sum}
-use Rattle.std.proofs.lemmas.List.{get_or_read}
 use Rattle.safl_number_set.specs.Groups.{Grouped, weighed, only}
-use Rattle.safl_number_set.specs.Numbers.{part}
-use Rattle.safl_number_set.specs.Tallies.{shift_of}
 use Rattle.safl_number_set.proofs.CountedGroups.{end_in, part_fits, part_least_of, put_parts, set_bits, bit_few}
 use Rattle.safl_number_set.proofs.groups.put.Goals as goal
 

@@ -1,5 +1,4 @@
-use Rattle.std.proofs.Common.{◌≡◌, ◌-◌, length}
-use Rattle.safl_number_set.specs.Linking.{AreLinkedFrom}
+use Rattle.safl_number_set.proofs.Common.{AreLinkedFrom, length, ◌-◌, ◌≡◌}
 use Rattle.safl_number_set.proofs.links.linked.Given as goal
 
 abbrev pub invariant-loop-done : goal.invariant-loop-done

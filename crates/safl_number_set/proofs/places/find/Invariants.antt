@@ -1,5 +1,4 @@
-use Rattle.std.proofs.Common.{◌≡◌, ◌≤◌, take}
-use Rattle.std.specs.Prelude.{sum}
+use Rattle.safl_number_set.proofs.Common.{sum, take, ◌≡◌, ◌≤◌}
 use Rattle.safl_number_set.proofs.places.find.Given as goal
 
 abbrev pub invariant-loop-at : goal.invariant-loop-at

@@ -1,7 +1,5 @@
+use Rattle.safl_number_set.proofs.Common.{AreSums, length-replicate, sum}
 use Rattle.std.proofs.Common.{◌≡◌, ℕ, ◌+◌, ◌/◌, List, length, replicate, sym, ap, ◌∙◌, subst, arith}
-use Rattle.std.specs.Prelude.{sum}
-use Rattle.std.proofs.lemmas.List.{length-replicate}
-use Rattle.safl_number_set.specs.Numbers.{AreSums}
 use Rattle.safl_number_set.proofs.SumsOfParts.{zeros, zero_sums}
 use Rattle.safl_number_set.proofs.tally.zero_tally.Goals as goal
 

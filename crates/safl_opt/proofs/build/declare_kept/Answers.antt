@@ -1,5 +1,4 @@
-use Rattle.std.proofs.Common.{◌<◌, ◌+◌, length, sym, subst, arith}
-use Rattle.safl_opt.specs.Stages.{Declared}
+use Rattle.safl_opt.proofs.Common.{Declared, arith, length, subst, sym, ◌+◌, ◌<◌}
 use Rattle.safl_opt.proofs.Coming.{sig_is, kept_within}
 use Rattle.safl_opt.proofs.Adding.{kept_few}
 use Rattle.safl_opt.proofs.Declaring.{declared_none, declared_next, free_next}

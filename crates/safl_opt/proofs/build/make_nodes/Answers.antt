@@ -1,5 +1,4 @@
-use Rattle.std.proofs.Common.{◌+◌, ◌∷◌, [], ◌++◌, sym, ap, subst, ◌∙◌, arith}
-use Rattle.safl_opt.specs.Stages.{Placed}
+use Rattle.safl_opt.proofs.Common.{Placed, [], ap, arith, subst, sym, ◌++◌, ◌+◌, ◌∙◌, ◌∷◌}
 use Rattle.safl_opt.proofs.Placing.{placed_none}
 use Rattle.safl_opt.proofs.build.make_nodes.Goals as goal
 

@@ -1,5 +1,4 @@
-use Rattle.std.proofs.Common.{ap, ◌∙◌, arith}
-use Rattle.safl_opt.specs.Values.{sig_at}
+use Rattle.safl_opt.proofs.Common.{ap, arith, sig_at, ◌∙◌}
 use Rattle.safl_opt.proofs.Coming.{sig_is}
 use Rattle.safl_opt.proofs.Starting.{sig_or}
 use Rattle.safl_opt.proofs.build.new_number.Goals as goal

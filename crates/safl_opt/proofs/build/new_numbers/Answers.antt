@@ -1,8 +1,4 @@
-use Rattle.std.proofs.Common.{◌<◌, length, map, sym, ap, subst, ◌∙◌, arith}
-use Rattle.std.proofs.lemmas.List.{take_all}
-use Rattle.safl_net.specs.Making.{numbers}
-use Rattle.safl_opt.specs.Values.{sig_at}
-use Rattle.safl_opt.specs.Building.{new_number}
+use Rattle.safl_opt.proofs.Common.{ap, arith, length, map, new_number, numbers, sig_at, subst, sym, take_all, ◌<◌, ◌∙◌}
 use Rattle.safl_opt.proofs.Coming.{numbers_at}
 use Rattle.safl_opt.proofs.Starting.{sig_or}
 use Rattle.safl_opt.proofs.ListSteps.{few_numbers, numbers_next}

@@ -1,6 +1,4 @@
-use Rattle.std.proofs.Common.{◌≡◌, map, take}
-use Rattle.safl_net.specs.Making.{numbers}
-use Rattle.safl_opt.specs.Building.{new_number}
+use Rattle.safl_opt.proofs.Common.{map, new_number, numbers, take, ◌≡◌}
 use Rattle.safl_opt.proofs.build.new_numbers.Given as goal
 
 abbrev pub invariant-loop-x : goal.invariant-loop-x

@@ -1,7 +1,5 @@
+use Rattle.safl_opt.proofs.Common.{Sig, cases_eq, sig_at}
 use Rattle.std.proofs.Common.{◌+◌, List, ◌∷◌, [], ◌++◌, length, length-append, sym, ap, ◌∙◌, inl, inr, arith}
-use Rattle.std.proofs.lemmas.Bool.{cases_eq}
-use Rattle.safl_net.specs.declared.cell.Sig.{Sig}
-use Rattle.safl_opt.specs.Values.{sig_at}
 use Rattle.safl_opt.proofs.Adding.{at_front, at_end}
 use Rattle.safl_opt.proofs.build.own_numbers.Goals as goal
 

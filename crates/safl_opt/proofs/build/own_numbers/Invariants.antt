@@ -1,5 +1,4 @@
-use Rattle.std.proofs.Common.{◌≡◌, ◌<◌, ℕ, length}
-use Rattle.safl_opt.specs.Values.{sig_at}
+use Rattle.safl_opt.proofs.Common.{length, sig_at, ℕ, ◌<◌, ◌≡◌}
 use Rattle.safl_opt.proofs.build.own_numbers.Given as goal
 
 abbrev pub invariant-kept : goal.invariant-kept

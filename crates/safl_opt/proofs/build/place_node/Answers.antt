@@ -1,8 +1,5 @@
+use Rattle.safl_opt.proofs.Common.{IsAdded, Placed, Sig, node_cell, value_width}
 use Rattle.std.proofs.Common.{◌≡◌, ◌+◌, ◌∷◌, [], ◌++◌, length, true, false, Result, Ok, Err, OnOk, IfOk, sym, ◌∙◌, arith}
-use Rattle.safl_net.specs.declared.cell.Sig.{Sig}
-use Rattle.safl_opt.specs.Values.{value_width}
-use Rattle.safl_opt.specs.Building.{node_cell, IsAdded}
-use Rattle.safl_opt.specs.Stages.{Placed}
 use Rattle.safl_opt.proofs.Marking.{read_is}
 use Rattle.safl_opt.proofs.Placing.{room, operand, gives, skipped, placed}
 use Rattle.safl_opt.proofs.build.place_node.Goals as goal

@@ -1,5 +1,4 @@
-use Rattle.std.proofs.Common.{◌<◌, length, sym, ap, subst, ◌∙◌}
-use Rattle.safl_net.specs.Netlist.{width_of}
+use Rattle.safl_opt.proofs.Common.{ap, length, subst, sym, width_of, ◌<◌, ◌∙◌}
 use Rattle.safl_opt.proofs.Setting.{turn_known, next_listed, next_number_known, next_fits, never_open_register, width_here, init_of, register_kind, register_open, register_set}
 use Rattle.safl_opt.proofs.build.set_register.Goals as goal
 

@@ -1,10 +1,6 @@
+use Rattle.safl_opt.proofs.Common.{Cell, Sig, Wire, cell_of, new_number, op_width}
 use Rattle.std.proofs.Common.{◌≡◌, ◌<◌, ℕ, List, All, Some, length, map, sym, ap, subst, ◌∙◌}
-use Rattle.safl_net.specs.declared.cell.Sig.{Sig}
-use Rattle.safl_net.specs.Netlist.{Cell, Wire}
 use Rattle.safl_net.specs.Making.{kind_at, numbers, signal_widths, with_kind}
-use Rattle.safl_net.specs.Stored.{cell_of}
-use Rattle.safl_net.specs.Widths.{op_width}
-use Rattle.safl_opt.specs.Building.{new_number}
 use Rattle.safl_opt.specs.Stages.{AreListed}
 use Rattle.safl_opt.proofs.Adding.{kind_of_cell}
 use Rattle.safl_opt.proofs.Setting.{turn_known, cell_listed, cell_known, cell_gives, never_open_wire, width_here, wire_open, wire_set, known_numbers}

@@ -1,6 +1,4 @@
-use Rattle.std.proofs.Common.{◌≡◌, ◌+◌, None, length, sym, ap, subst, ◌∙◌, arith}
-use Rattle.safl_net.specs.Making.{refusal, with_output}
-use Rattle.safl_opt.specs.Building.{new_number}
+use Rattle.safl_opt.proofs.Common.{None, ap, arith, length, new_number, refusal, subst, sym, with_output, ◌+◌, ◌∙◌, ◌≡◌}
 use Rattle.safl_opt.specs.Stages.{Shown}
 use Rattle.safl_opt.proofs.Showing.{shown_none, output_at, output_called, output_root, output_free, shown_next, few_shown}
 use Rattle.safl_opt.proofs.build.show_outputs.Goals as goal

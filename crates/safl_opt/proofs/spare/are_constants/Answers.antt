@@ -1,7 +1,5 @@
+use Rattle.safl_opt.proofs.Common.{are_constants, is_constant, numbers, take_all}
 use Rattle.std.proofs.Common.{◌≡◌, ◌+◌, suc, take, true, false, sym, ap, ◌∙◌, arith}
-use Rattle.std.proofs.lemmas.List.{take_all}
-use Rattle.safl_net.specs.Making.{numbers}
-use Rattle.safl_opt.specs.Lean.{is_constant, are_constants}
 use Rattle.safl_opt.proofs.Starting.{sig_or}
 use Rattle.safl_opt.proofs.Sparing.{all_next, not_all}
 use Rattle.safl_opt.proofs.spare.are_constants.Goals as goal

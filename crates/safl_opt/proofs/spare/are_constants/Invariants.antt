@@ -1,6 +1,4 @@
-use Rattle.std.proofs.Common.{◌≡◌, take, true}
-use Rattle.safl_net.specs.Making.{numbers}
-use Rattle.safl_opt.specs.Lean.{are_constants}
+use Rattle.safl_opt.proofs.Common.{are_constants, numbers, take, true, ◌≡◌}
 use Rattle.safl_opt.proofs.spare.are_constants.Given as goal
 
 abbrev pub invariant-loop-s : goal.invariant-loop-s

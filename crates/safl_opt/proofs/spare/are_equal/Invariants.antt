@@ -1,5 +1,4 @@
-use Rattle.std.proofs.Common.{◌≡◌, ◌<◌, ℕ}
-use Rattle.safl_opt.specs.Values.{sig_at}
+use Rattle.safl_opt.proofs.Common.{sig_at, ℕ, ◌<◌, ◌≡◌}
 use Rattle.safl_opt.proofs.spare.are_equal.Given as goal
 
 abbrev pub invariant-all : goal.invariant-all

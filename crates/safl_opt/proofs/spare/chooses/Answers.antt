@@ -1,5 +1,4 @@
-use Rattle.std.proofs.Common.{sym, subst, arith}
-use Rattle.safl_opt.specs.Spare.{IsChoice}
+use Rattle.safl_opt.proofs.Common.{IsChoice, arith, subst, sym}
 use Rattle.safl_opt.proofs.Sparing.{choice, three_numbers}
 use Rattle.safl_opt.proofs.spare.chooses.Goals as goal
 

@@ -1,7 +1,4 @@
-use Rattle.std.proofs.Common.{◌≡◌, Some, None, sym, ap, ◌∙◌}
-use Rattle.safl_net.specs.Netlist.{Wire}
-use Rattle.safl_net.specs.Making.{kind_at, cell_in}
-use Rattle.safl_net.specs.Stored.{cell_of}
+use Rattle.safl_opt.proofs.Common.{None, Some, Wire, ap, cell_in, cell_of, kind_at, sym, ◌∙◌, ◌≡◌}
 use Rattle.safl_opt.proofs.Adding.{kind_of_cell}
 use Rattle.safl_opt.proofs.spare.has_cell.Goals as goal
 

@@ -1,8 +1,6 @@
-use Rattle.std.proofs.Common.{◌≡◌, ℕ, Some, None, ap, ◌∙◌}
+use Rattle.safl_opt.proofs.Common.{Netlist, None, Reg, Some, ap, next_kind, ℕ, ◌∙◌, ◌≡◌}
 use Rattle.std.proofs.lemmas.Bool.{eqb-true, eq-eqb}
-use Rattle.safl_net.specs.Netlist.{Netlist, Reg}
 use Rattle.safl_net.specs.Making.{kind_at, next_in}
-use Rattle.safl_net.proofs.SignalKinds.{next_kind}
 use Rattle.safl_opt.proofs.spare.has_next.Goals as goal
 
 same_next : (n : Netlist) (r s t : ℕ) → Some t ≡ next_in (kind_at n r) → t ≡ s → (init : ℕ) × (kind_at n r ≡ Reg init (Some s))

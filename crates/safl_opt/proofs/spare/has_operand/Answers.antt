@@ -1,6 +1,4 @@
-use Rattle.std.proofs.Common.{◌≡◌, slice_get, sym, ap, ◌∙◌}
-use Rattle.safl_net.specs.Making.{numbers}
-use Rattle.safl_order.specs.Order.{operands_in, operands_of}
+use Rattle.safl_opt.proofs.Common.{ap, numbers, operands_in, operands_of, slice_get, sym, ◌∙◌, ◌≡◌}
 use Rattle.safl_opt.proofs.spare.has_operand.Goals as goal
 
 pub returns-in-Some : goal.returns-in-Some

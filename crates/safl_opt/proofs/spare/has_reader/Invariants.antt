@@ -1,5 +1,4 @@
-use Rattle.std.proofs.Common.{◌<◌, ℕ}
-use Rattle.safl_opt.specs.Spare.{IsReader}
+use Rattle.safl_opt.proofs.Common.{IsReader, ℕ, ◌<◌}
 use Rattle.safl_opt.proofs.spare.has_reader.Given as goal
 
 abbrev pub invariant-signals : goal.invariant-signals

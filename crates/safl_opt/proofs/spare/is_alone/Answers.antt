@@ -1,5 +1,4 @@
-use Rattle.std.proofs.Common.{true, false, refl, below_more, arith}
-use Rattle.safl_order.proofs.Moves.{wire_in_net}
+use Rattle.safl_opt.proofs.Common.{arith, below_more, false, refl, true, wire_in_net}
 use Rattle.safl_opt.proofs.spare.is_alone.Goals as goal
 
 pub signals-preserved : goal.signals-preserved

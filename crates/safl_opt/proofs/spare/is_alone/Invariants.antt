@@ -1,5 +1,4 @@
-use Rattle.std.proofs.Common.{◌≡◌, ◌<◌, ℕ}
-use Rattle.safl_net.specs.Stored.{cell_of}
+use Rattle.safl_opt.proofs.Common.{cell_of, ℕ, ◌<◌, ◌≡◌}
 use Rattle.safl_opt.specs.Lean.{HasCell}
 use Rattle.safl_opt.proofs.spare.is_alone.Given as goal
 

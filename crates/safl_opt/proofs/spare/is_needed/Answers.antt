@@ -1,9 +1,5 @@
+use Rattle.safl_opt.proofs.Common.{IsChoice, are_constants, cell_of, numbers, numbers_length}
 use Rattle.std.proofs.Common.{◌<◌, All, length, arith, refl, sym, ap, subst, ◌∙◌}
-use Rattle.safl_net.specs.Making.{numbers}
-use Rattle.safl_net.specs.Stored.{cell_of}
-use Rattle.safl_net.proofs.Keeping.{numbers_length}
-use Rattle.safl_opt.specs.Lean.{are_constants}
-use Rattle.safl_opt.specs.Spare.{IsChoice}
 use Rattle.safl_opt.proofs.Setting.{known_numbers}
 use Rattle.safl_opt.proofs.Sparing.{needed_const, needed_copy, needed_apply, apply_folded, mux_three, needed_mux, not_then_false, false_then_not}
 use Rattle.safl_opt.proofs.spare.is_needed.Goals as goal

@@ -1,6 +1,5 @@
+use Rattle.safl_opt.proofs.Common.{cases_eq, slice_get_within}
 use Rattle.std.proofs.Common.{◌≡◌, ℕ, List, true, false, inl, inr, slice_get, refl, sym, ap, ◌∙◌, arith}
-use Rattle.std.proofs.lemmas.Bool.{cases_eq}
-use Rattle.std.proofs.lemmas.Option.{slice_get_within}
 use Rattle.safl_opt.proofs.Showing.{output_at}
 use Rattle.safl_opt.proofs.spare.is_shown.Goals as goal
 

@@ -1,7 +1,5 @@
+use Rattle.safl_opt.proofs.Common.{Cell, Netlist, Wire, cell_in, cell_of, kind_at, width_of}
 use Rattle.std.proofs.Common.{◌≡◌, ℕ, Some, None, true, false, refl, sym, ap, subst, ◌∙◌}
-use Rattle.safl_net.specs.Netlist.{Netlist, Wire, Cell, width_of}
-use Rattle.safl_net.specs.Making.{kind_at, cell_in}
-use Rattle.safl_net.specs.Stored.{cell_of}
 use Rattle.safl_opt.specs.Spare.{IsNeeded, IsAlone, HasReader, IsWanted}
 use Rattle.safl_opt.proofs.Coming.{cell_fits}
 use Rattle.safl_opt.proofs.Adding.{kind_of_cell}

@@ -1,5 +1,4 @@
-use Rattle.std.proofs.Common.{true, false, refl, below_more, arith}
-use Rattle.safl_order.proofs.Moves.{wire_in_net}
+use Rattle.safl_opt.proofs.Common.{arith, below_more, false, refl, true, wire_in_net}
 use Rattle.safl_opt.proofs.Reaching.{all_wanted, wanted}
 use Rattle.safl_opt.proofs.spare.lean.Goals as goal
 

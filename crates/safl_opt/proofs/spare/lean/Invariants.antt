@@ -1,5 +1,4 @@
-use Rattle.std.proofs.Common.{◌<◌, ℕ}
-use Rattle.safl_opt.specs.Lean.{IsTemporary}
+use Rattle.safl_opt.proofs.Common.{IsTemporary, ℕ, ◌<◌}
 use Rattle.safl_opt.specs.Spare.{IsWanted}
 use Rattle.safl_opt.proofs.spare.lean.Given as goal
 

@@ -1,9 +1,4 @@
-use Rattle.std.proofs.Common.{◌≡◌, ℕ, Some, inl, inr, ap, ◌∙◌}
-use Rattle.safl_net.specs.declared.cell.SigKind.{SigKind}
-use Rattle.safl_net.specs.Netlist.{Netlist, Reg}
-use Rattle.safl_net.specs.Making.{kind_at, sort_of}
-use Rattle.safl_order.specs.Order.{ReadsSignal}
-use Rattle.safl_opt.specs.Spare.{IsReader}
+use Rattle.safl_opt.proofs.Common.{IsReader, Netlist, ReadsSignal, Reg, SigKind, Some, ap, inl, inr, kind_at, sort_of, ℕ, ◌∙◌, ◌≡◌}
 use Rattle.safl_opt.proofs.Reaching.{is_wire}
 use Rattle.safl_opt.proofs.spare.reads.Goals as goal
 

@@ -1,7 +1,5 @@
+use Rattle.safl_order.proofs.Common.{Stop, numbers, slice_get_within}
 use Rattle.std.proofs.Common.{arith, ap, subst, refl, is_some}
-use Rattle.std.proofs.lemmas.Option.{slice_get_within}
-use Rattle.safl_net.specs.Making.{numbers}
-use Rattle.safl_order.specs.declared.walk.Stop.{Stop}
 use Rattle.safl_order.specs.Walk.{IsStop, IsOpenLoop}
 use Rattle.safl_order.proofs.Ends.{order_done, order_acyclic}
 use Rattle.safl_order.proofs.Loops.{loop_found}

@@ -1,6 +1,5 @@
-use Rattle.std.proofs.Common.{◌≡◌, ◌+◌, min, sym, ap, ◌∙◌}
+use Rattle.safl_parse.proofs.Common.{ap, min, shown_bounds, shown_tree, sym, ◌+◌, ◌∙◌, ◌≡◌}
 use Rattle.safl_tree.specs.Tree.{Let, binds_of, depth}
-use Rattle.safl_tree.specs.Shown.{shown_tree, shown_bounds}
 use Rattle.safl_tree.proofs.ShownTrees.{let_shows}
 use Rattle.safl_parse.proofs.Rows.{cap_let}
 use Rattle.safl_parse.proofs.part.bound.Goals as goal

@@ -1,6 +1,5 @@
-use Rattle.std.proofs.Common.{◌≡◌, ◌+◌, min, sym, ap, ◌∙◌}
+use Rattle.safl_parse.proofs.Common.{ap, min, shown_labelled, shown_tree, sym, ◌+◌, ◌∙◌, ◌≡◌}
 use Rattle.safl_tree.specs.Tree.{Cases, arms_of, depth, deepest_arm}
-use Rattle.safl_tree.specs.Shown.{shown_tree, shown_labelled}
 use Rattle.safl_tree.proofs.ShownTrees.{case_shows}
 use Rattle.safl_parse.proofs.Rows.{cap_case}
 use Rattle.safl_parse.proofs.part.cased.Goals as goal

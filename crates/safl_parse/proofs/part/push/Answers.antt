@@ -1,6 +1,5 @@
-use Rattle.std.proofs.Common.{min, sym, ap, ◌∙◌}
+use Rattle.safl_parse.proofs.Common.{ap, min, shown_trees, sym, ◌∙◌}
 use Rattle.safl_tree.specs.Tree.{trees_of, deepest}
-use Rattle.safl_tree.specs.Shown.{shown_trees}
 use Rattle.safl_parse.proofs.Rows.{cap_end}
 use Rattle.safl_parse.proofs.part.push.Goals as goal
 

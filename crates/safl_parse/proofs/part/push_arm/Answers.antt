@@ -1,5 +1,4 @@
-use Rattle.std.proofs.Common.{min, sym, ap, ◌∙◌}
-use Rattle.safl_tree.specs.Shown.{shown_labelled}
+use Rattle.safl_parse.proofs.Common.{ap, min, shown_labelled, sym, ◌∙◌}
 use Rattle.safl_parse.specs.Parts.{labelled_depth}
 use Rattle.safl_parse.proofs.Rows.{cap_arm_end}
 use Rattle.safl_parse.proofs.part.push_arm.Goals as goal

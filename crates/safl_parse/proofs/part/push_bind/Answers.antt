@@ -1,6 +1,5 @@
-use Rattle.std.proofs.Common.{min, sym, ap, ◌∙◌}
+use Rattle.safl_parse.proofs.Common.{ap, min, shown_bounds, sym, ◌∙◌}
 use Rattle.safl_tree.specs.Tree.{binds_of, deepest_bind}
-use Rattle.safl_tree.specs.Shown.{shown_bounds}
 use Rattle.safl_parse.proofs.Rows.{cap_bind_end}
 use Rattle.safl_parse.proofs.part.push_bind.Goals as goal
 

@@ -1,9 +1,7 @@
+use Rattle.safl_probe.proofs.Common.{cases_lt, false≢true, lower_or_last, probe_at}
 use Rattle.std.proofs.Common.{◌≡◌, ℕ, ◌+◌, ◌<◌, ◌≤◌, List, map, get_or, length, refl, sym, subst, ◌∙◌, inl, inr, arith}
-use Rattle.std.proofs.lemmas.Bool.{false≢true, cases_lt}
 use Rattle.std.proofs.lemmas.List.{length-map, get_or_past}
-use Rattle.safl_word.proofs.Naturals.{lower_or_last}
 use Rattle.safl_probe.specs.Probing.{ProbeState, IsWaiting, fresh}
-use Rattle.safl_probe.specs.Asked.{probe_at}
 use Rattle.safl_probe.proofs.Telling.{at_place}
 use Rattle.safl_probe.proofs.begun.none_begun.Goals as goal
 

@@ -1,6 +1,5 @@
-use Rattle.std.proofs.Common.{ℕ, ◌<◌, map}
+use Rattle.safl_probe.proofs.Common.{map, probe_at, ℕ, ◌<◌}
 use Rattle.safl_probe.specs.Probing.{IsWaiting}
-use Rattle.safl_probe.specs.Asked.{probe_at}
 use Rattle.safl_probe.proofs.begun.none_begun.Given as goal
 
 abbrev pub invariant-probes : goal.invariant-probes

@@ -1,21 +1,11 @@
+use Rattle.safl_probe.proofs.Common.{Asked, Files, HasWidths, IsNetlist, Made, Netlist, OldOrPart, Word, after_frames, asked}
+use Rattle.safl_probe.proofs.Common.{err_from_is_err_and, on_err_always, probe_at, reads_same, reads_then, with_items_is}
 use Rattle.std.proofs.Common.{◌≡◌, List, map, slice_index, Vec, Global, Option, refl, sym, ap, subst, ◌∙◌, arith}
-use Rattle.std.proofs.lemmas.List.{with_items_is}
-use Rattle.std.proofs.lemmas.Result.{err_from_is_err_and}
-use Rattle.safl_word.specs.Words.{Word}
-use Rattle.safl_word.proofs.Options.{on_err_always}
-use Rattle.safl_io.specs.Shelf.{Files}
-use Rattle.safl_io.proofs.Keeping.{reads_same, reads_then}
-use Rattle.safl_net.specs.Netlist.{Netlist}
-use Rattle.safl_net.specs.Rules.{IsNetlist}
 use Rattle.safl_net.specs.Valuations.{Valuation, IsAcyclic, reset_state}
 use Rattle.safl_run.specs.Calls.{cycles_of}
 use Rattle.safl_run.specs.Steps.{IsCalled}
 use Rattle.safl_run.proofs.OneAnswer.{outcome, answers_along, from_reset}
-use Rattle.safl_probe.specs.Calls.{after_frames}
 use Rattle.safl_probe.specs.Probing.{ProbeState, IsWaiting, Tells, begun, ended}
-use Rattle.safl_probe.specs.Rooms.{HasWidths}
-use Rattle.safl_probe.specs.Asked.{Asked, asked, probe_at}
-use Rattle.safl_probe.specs.Growth.{Made, OldOrPart}
 use Rattle.safl_probe.specs.Runs.{until_done}
 use Rattle.safl_probe.proofs.Ends.{opened_whole, opened_part, told_begun, closed_whole, closed_part, can_finish}
 use Rattle.safl_probe.proofs.Frames.{ready, all_untouched, tells_frames}

@@ -1,5 +1,4 @@
-use Rattle.std.proofs.Common.{map, ◌∙◌}
-use Rattle.safl_word.specs.Words.{Word}
+use Rattle.safl_probe.proofs.Common.{Word, map, ◌∙◌}
 use Rattle.safl_probe.proofs.Spots.{look_more, first_all}
 use Rattle.safl_probe.proofs.look.look.Goals as goal
 

@@ -1,5 +1,4 @@
-use Rattle.std.proofs.Common.{◌≡◌, map}
-use Rattle.safl_word.specs.Words.{Word}
+use Rattle.safl_probe.proofs.Common.{Word, map, ◌≡◌}
 use Rattle.safl_probe.proofs.Spots.{looked_first}
 use Rattle.safl_probe.proofs.look.look.Given as goal
 

@@ -1,7 +1,5 @@
+use Rattle.safl_probe.proofs.Common.{Entry, Spot, spot_of}
 use Rattle.std.proofs.Common.{ℕ, List, [], ◌∷◌, ◌++◌, map, refl, ap, ◌∙◌}
-use Rattle.safl_probe.specs.Entries.{spot_of}
-use Rattle.safl_probe.specs.declared.entry.Entry.{Entry}
-use Rattle.safl_probe.specs.declared.entry.Spot.{Spot}
 use Rattle.safl_probe.proofs.Rest.{rest_more, rest_none, drop_or}
 use Rattle.safl_probe.proofs.look.spots_of.Goals as goal
 

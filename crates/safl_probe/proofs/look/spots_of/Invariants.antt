@@ -1,5 +1,4 @@
-use Rattle.std.proofs.Common.{◌≡◌, ◌++◌, drop, map}
-use Rattle.safl_probe.specs.Entries.{spot_of}
+use Rattle.safl_probe.proofs.Common.{drop, map, spot_of, ◌++◌, ◌≡◌}
 use Rattle.safl_probe.proofs.look.spots_of.Given as goal
 
 abbrev pub invariant-entries : goal.invariant-entries

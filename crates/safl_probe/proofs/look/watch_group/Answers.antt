@@ -1,8 +1,5 @@
-use Rattle.std.proofs.Common.{ℕ, List, ◌++◌, refl, arith}
-use Rattle.safl_word.proofs.Lists.{drop_suc}
-use Rattle.safl_net.specs.Netlist.{Signal}
+use Rattle.safl_probe.proofs.Common.{List, Signal, arith, drop_suc, refl, watched_all, ℕ, ◌++◌}
 use Rattle.safl_probe.specs.Watching.{group_from, one_watched}
-use Rattle.safl_probe.specs.Entries.{watched_all}
 use Rattle.safl_probe.proofs.Rest.{rest_more, rest_none}
 use Rattle.safl_probe.proofs.Looks.{signal_there}
 use Rattle.safl_probe.proofs.look.watch_group.Goals as goal

@@ -1,6 +1,5 @@
-use Rattle.std.proofs.Common.{◌≡◌, ◌++◌, drop}
+use Rattle.safl_probe.proofs.Common.{drop, watched_all, ◌++◌, ◌≡◌}
 use Rattle.safl_probe.specs.Watching.{group_from}
-use Rattle.safl_probe.specs.Entries.{watched_all}
 use Rattle.safl_probe.proofs.look.watch_group.Given as goal
 
 abbrev pub invariant-signals : goal.invariant-signals

@@ -1,8 +1,6 @@
+use Rattle.safl_probe.proofs.Common.{Watched, drop_suc, output_watched, watched_all}
 use Rattle.std.proofs.Common.{ℕ, List, [], ◌∷◌, ◌++◌, map, refl, ap, ◌∙◌, arith}
-use Rattle.safl_word.proofs.Lists.{drop_suc}
 use Rattle.safl_net.proofs.SignalKinds.{output_known}
-use Rattle.safl_probe.specs.Watching.{Watched, output_watched}
-use Rattle.safl_probe.specs.Entries.{watched_all}
 use Rattle.safl_probe.proofs.Rest.{rest_more, rest_none}
 use Rattle.safl_probe.proofs.Looks.{output_there, pushed}
 use Rattle.safl_probe.proofs.look.watch_outputs.Goals as goal

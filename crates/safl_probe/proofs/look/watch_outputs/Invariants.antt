@@ -1,6 +1,4 @@
-use Rattle.std.proofs.Common.{◌≡◌, ◌++◌, drop, map}
-use Rattle.safl_probe.specs.Watching.{output_watched}
-use Rattle.safl_probe.specs.Entries.{watched_all}
+use Rattle.safl_probe.proofs.Common.{drop, map, output_watched, watched_all, ◌++◌, ◌≡◌}
 use Rattle.safl_probe.proofs.look.watch_outputs.Given as goal
 
 abbrev pub invariant-outputs : goal.invariant-outputs

@@ -1,9 +1,7 @@
+use Rattle.safl_probe.proofs.Common.{Netlist, Word, lower_or_last}
 use Rattle.std.proofs.Common.{◌≡◌, ℕ, ◌+◌, ◌<◌, List, map, set, get_or, length, sym, ap, ◌∙◌, inl, inr, arith}
 use Rattle.std.proofs.lemmas.List.{map-set, length-map, get_or-set_same, get_or-set_other, ext_get_or}
 use Rattle.std.proofs.Math.Seq.{map-set_same}
-use Rattle.safl_word.specs.Words.{Word}
-use Rattle.safl_word.proofs.Naturals.{lower_or_last}
-use Rattle.safl_net.specs.Netlist.{Netlist}
 use Rattle.safl_probe.proofs.Widths.{same_width, same_length}
 use Rattle.safl_probe.proofs.room.fill.Goals as goal
 

@@ -1,6 +1,4 @@
-use Rattle.std.proofs.Common.{◌≡◌, ℕ, ◌<◌, get_or, map}
-use Rattle.safl_word.specs.Words.{Word}
-use Rattle.safl_probe.specs.Rooms.{HasWidths}
+use Rattle.safl_probe.proofs.Common.{HasWidths, Word, get_or, map, ℕ, ◌<◌, ◌≡◌}
 use Rattle.safl_probe.proofs.room.fill.Given as goal
 
 abbrev pub invariant-signals : goal.invariant-signals

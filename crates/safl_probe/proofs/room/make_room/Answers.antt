@@ -1,6 +1,5 @@
+use Rattle.safl_probe.proofs.Common.{Netlist, Word}
 use Rattle.std.proofs.Common.{map, length, ap, ◌∙◌, arith}
-use Rattle.safl_word.specs.Words.{Word}
-use Rattle.safl_net.specs.Netlist.{Netlist}
 use Rattle.safl_probe.proofs.Widths.{widths_more, widths_all}
 use Rattle.safl_probe.proofs.room.make_room.Goals as goal
 

@@ -1,6 +1,5 @@
+use Rattle.safl_probe.proofs.Common.{Signal, Word}
 use Rattle.std.proofs.Common.{◌≡◌, map, take}
-use Rattle.safl_word.specs.Words.{Word}
-use Rattle.safl_net.specs.Netlist.{Signal}
 use Rattle.safl_probe.proofs.room.make_room.Given as goal
 
 abbrev pub invariant-signals : goal.invariant-signals

@@ -1,15 +1,9 @@
+use Rattle.safl_probe.proofs.Common.{Frame, HasWidths, Netlist, ProbeState, Valuation, Word, probe_at}
 use Rattle.std.proofs.Common.{◌≡◌, ℕ, List, ◌++◌, map, take, drop, length, Vec, Global, sym, ap, subst, ◌∙◌, arith}
 use Rattle.std.proofs.lemmas.List.{append-nil, take_all, drop_all}
 use Rattle.std.proofs.lemmas.Result.{IfErr-weaker, on_ok_weaker}
-use Rattle.safl_word.specs.Words.{Word}
-use Rattle.safl_net.specs.Netlist.{Netlist}
-use Rattle.safl_net.specs.Valuations.{Valuation}
-use Rattle.safl_probe.specs.Probing.{ProbeState}
-use Rattle.safl_probe.specs.Rooms.{HasWidths}
-use Rattle.safl_probe.specs.Asked.{probe_at}
 use Rattle.safl_probe.specs.Moments.{CanTell}
 use Rattle.safl_probe.specs.Telling.{AllTold, ToldPart}
-use Rattle.safl_probe.specs.declared.moment.Moment.TheVariants.{Frame}
 use Rattle.safl_probe.proofs.show.show.Goals as goal
 
 -- a slice of all words was filled

@@ -1,9 +1,7 @@
+use Rattle.safl_probe.proofs.Common.{Entry, Spot, drop-cons}
 use Rattle.std.proofs.Common.{ℕ, List, ◌++◌, get_or, slice_get, refl}
-use Rattle.std.proofs.Math.Seq.{drop-cons}
 use Rattle.safl_probe.specs.Texts.{Text, start_lines, start}
 use Rattle.safl_probe.specs.Entries.{name_of, watched_from, numbers}
-use Rattle.safl_probe.specs.declared.entry.Entry.{Entry}
-use Rattle.safl_probe.specs.declared.entry.Spot.{Spot}
 use Rattle.safl_probe.proofs.Rest.{rest_more, rest_none}
 use Rattle.safl_probe.proofs.Spots.{no_spot}
 use Rattle.safl_probe.proofs.starts_and_toggles.push_starts.Goals as goal

@@ -1,6 +1,5 @@
-use Rattle.std.proofs.Common.{◌≡◌, ◌++◌, drop}
+use Rattle.safl_probe.proofs.Common.{drop, numbers, watched_from, ◌++◌, ◌≡◌}
 use Rattle.safl_probe.specs.Texts.{start_lines}
-use Rattle.safl_probe.specs.Entries.{watched_from, numbers}
 use Rattle.safl_probe.proofs.starts_and_toggles.push_starts.Given as goal
 
 abbrev pub invariant-spots : goal.invariant-spots

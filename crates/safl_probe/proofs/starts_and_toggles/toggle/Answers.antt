@@ -1,12 +1,7 @@
+use Rattle.safl_probe.proofs.Common.{Spot, Valuation, Word, nameless, numbers, seen, toggled}
 use Rattle.std.proofs.Common.{◌≡◌, ℕ, ◌+◌, List, ◌∷◌, drop, suc, map, get_or, slice_index, sym, ap, ◌∙◌, add-one, arith}
 use Rattle.std.specs.Prelude.{bit_xor, count_ones}
 use Rattle.std.proofs.lemmas.List.{drop_all}
-use Rattle.safl_word.specs.Words.{Word}
-use Rattle.safl_net.specs.Valuations.{Valuation}
-use Rattle.safl_probe.specs.Watching.{seen}
-use Rattle.safl_probe.specs.Texts.{toggled}
-use Rattle.safl_probe.specs.Entries.{nameless, numbers}
-use Rattle.safl_probe.specs.declared.entry.Spot.{Spot}
 use Rattle.safl_probe.proofs.Spots.{no_spot, spots_from, look_more, first_all}
 use Rattle.safl_probe.proofs.starts_and_toggles.toggle.Goals as goal
 

@@ -1,8 +1,5 @@
+use Rattle.safl_probe.proofs.Common.{Word, nameless, numbers, seen, toggled}
 use Rattle.std.proofs.Common.{◌≡◌, ◌+◌, ◌*◌, ◌≤◌, drop, map}
-use Rattle.safl_word.specs.Words.{Word}
-use Rattle.safl_probe.specs.Watching.{seen}
-use Rattle.safl_probe.specs.Texts.{toggled}
-use Rattle.safl_probe.specs.Entries.{nameless, numbers}
 use Rattle.safl_probe.proofs.Spots.{looked_first}
 use Rattle.safl_probe.proofs.starts_and_toggles.toggle.Given as goal
 

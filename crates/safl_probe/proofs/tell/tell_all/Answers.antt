@@ -1,14 +1,9 @@
+use Rattle.safl_probe.proofs.Common.{Moment, Netlist, Word, err_from_is_err_and, get_or-map, length-map, reads_same, reads_then}
 use Rattle.std.proofs.Common.{◌≡◌, ◌≤◌, ℕ, ◌<◌, List, map, get_or, length, Option, Some, None, Vec, Global, String, string_bytes, option_map, refl, sym, ap, subst, ◌∙◌, arith}
-use Rattle.std.proofs.lemmas.List.{get_or-map, length-map}
-use Rattle.std.proofs.lemmas.Result.{err_from_is_err_and}
-use Rattle.safl_word.specs.Words.{Word}
-use Rattle.safl_net.specs.Netlist.{Netlist}
-use Rattle.safl_io.proofs.Keeping.{reads_same, reads_then}
 use Rattle.safl_probe.specs.Probing.{ProbeState, Tells}
 use Rattle.safl_probe.specs.Asked.{Asked, IsAsked, asked, probe_at}
 use Rattle.safl_probe.specs.Moments.{CanTell, text_at, state_at}
 use Rattle.safl_probe.specs.Growth.{Grown}
-use Rattle.safl_probe.specs.declared.moment.Moment.{Moment}
 use Rattle.safl_probe.proofs.Growing.{told_none, told_more, told_skip, told_all, told_part, there_none, told_there_more, told_there_skip, told_there_all, strays_none, strays_more, is_within}
 use Rattle.safl_probe.proofs.Telling.{ToldTo, none_told, skip_told, more_told, can_tell, keeps_more, stopped_at, text_was, asked_at}
 use Rattle.safl_probe.proofs.tell.tell_all.Goals as goal

@@ -1,9 +1,5 @@
+use Rattle.safl_probe.proofs.Common.{AreApart, Asked, Files, SameReads, TellsOn, Valuation, Word, asked, probe_at}
 use Rattle.std.proofs.Common.{◌≡◌, map, Option, OnSome}
-use Rattle.safl_word.specs.Words.{Word}
-use Rattle.safl_io.specs.Told.{TellsOn}
-use Rattle.safl_io.specs.Shelf.{Files, SameReads}
-use Rattle.safl_net.specs.Valuations.{Valuation}
-use Rattle.safl_probe.specs.Asked.{Asked, AreApart, asked, probe_at}
 use Rattle.safl_probe.specs.Moments.{text_at}
 use Rattle.safl_probe.specs.Growth.{FirstGrow, Grown, AllThere}
 use Rattle.safl_probe.proofs.Growing.{ThereTo}

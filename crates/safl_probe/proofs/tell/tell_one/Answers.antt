@@ -1,6 +1,5 @@
+use Rattle.safl_probe.proofs.Common.{false≢true, on_err_always}
 use Rattle.std.proofs.Common.{◌≡◌, Result, Ok, Err, OnOk, OnErr, is_ok, sym, ap, ◌∙◌}
-use Rattle.std.proofs.lemmas.Bool.{false≢true}
-use Rattle.safl_word.proofs.Options.{on_err_always}
 use Rattle.safl_probe.proofs.Growing.{opened_only, unopened}
 use Rattle.safl_probe.proofs.tell.tell_one.Goals as goal
 

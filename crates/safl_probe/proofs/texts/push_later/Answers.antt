@@ -1,11 +1,6 @@
+use Rattle.safl_probe.proofs.Common.{TraceKind, Valuation, Watched, Word, numbers, on_ok_weaker, seen, watched_from}
 use Rattle.std.proofs.Common.{ℕ, List, ◌++◌, map, Some, sym, ap, ◌∙◌}
-use Rattle.std.proofs.lemmas.Result.{on_ok_weaker}
-use Rattle.safl_word.specs.Words.{Word}
-use Rattle.safl_net.specs.Valuations.{Valuation}
-use Rattle.safl_probe.specs.Watching.{Watched, seen}
 use Rattle.safl_probe.specs.Texts.{Text, frame_text, toggles}
-use Rattle.safl_probe.specs.Entries.{watched_from, numbers}
-use Rattle.safl_probe.specs.declared.kind.TraceKind.{TraceKind}
 use Rattle.safl_probe.proofs.Spots.{starts_are, changes_are, toggles_are}
 use Rattle.safl_probe.proofs.texts.push_later.Goals as goal
 

@@ -1,10 +1,6 @@
+use Rattle.safl_probe.proofs.Common.{Spot, Valuation, Word, nameless, numbers, seen}
 use Rattle.std.proofs.Common.{ℕ, List, ◌++◌, map, get_or, slice_index, refl, ◌∙◌}
-use Rattle.safl_word.specs.Words.{Word}
-use Rattle.safl_net.specs.Valuations.{Valuation}
-use Rattle.safl_probe.specs.Watching.{seen}
 use Rattle.safl_probe.specs.Texts.{Text, changes, changed}
-use Rattle.safl_probe.specs.Entries.{nameless, numbers}
-use Rattle.safl_probe.specs.declared.entry.Spot.{Spot}
 use Rattle.safl_probe.proofs.Rest.{rest_more, rest_none}
 use Rattle.safl_probe.proofs.Spots.{no_spot, spots_from, look_more, first_all}
 use Rattle.safl_probe.proofs.vcd_text.push_changes.Goals as goal

@@ -1,8 +1,5 @@
-use Rattle.std.proofs.Common.{◌≡◌, ◌++◌, drop, map}
-use Rattle.safl_word.specs.Words.{Word}
-use Rattle.safl_probe.specs.Watching.{seen}
+use Rattle.safl_probe.proofs.Common.{Word, drop, map, nameless, numbers, seen, ◌++◌, ◌≡◌}
 use Rattle.safl_probe.specs.Texts.{changes}
-use Rattle.safl_probe.specs.Entries.{nameless, numbers}
 use Rattle.safl_probe.proofs.Spots.{looked_first}
 use Rattle.safl_probe.proofs.vcd_text.push_changes.Given as goal
 

@@ -1,6 +1,5 @@
+use Rattle.safl_probe.proofs.Common.{Text, variable_texts, watched_all}
 use Rattle.std.proofs.Common.{◌≡◌, ◌++◌, ◌∙◌, ap, append_assoc, codes}
-use Rattle.safl_probe.specs.Texts.{Text, variable_texts}
-use Rattle.safl_probe.specs.Entries.{watched_all}
 use Rattle.safl_probe.proofs.vcd_text.push_header.Goals as goal
 
 three : (old a b d one two now : Text) → one ≡ old ++ a → two ≡ one ++ b → now ≡ two ++ d → now ≡ old ++ (a ++ b ++ d)

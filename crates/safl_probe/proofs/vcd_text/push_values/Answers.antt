@@ -1,8 +1,5 @@
-use Rattle.std.proofs.Common.{ℕ, List, ◌++◌, get_or, refl}
-use Rattle.std.proofs.Math.Seq.{drop-cons}
+use Rattle.safl_probe.proofs.Common.{List, Spot, drop-cons, get_or, nameless, numbers, refl, ℕ, ◌++◌}
 use Rattle.safl_probe.specs.Texts.{value_texts, value_text}
-use Rattle.safl_probe.specs.Entries.{nameless, numbers}
-use Rattle.safl_probe.specs.declared.entry.Spot.{Spot}
 use Rattle.safl_probe.proofs.Rest.{rest_more, rest_none}
 use Rattle.safl_probe.proofs.Spots.{no_spot}
 use Rattle.safl_probe.proofs.vcd_text.push_values.Goals as goal

@@ -1,6 +1,5 @@
-use Rattle.std.proofs.Common.{◌≡◌, ◌++◌, drop}
+use Rattle.safl_probe.proofs.Common.{drop, nameless, numbers, ◌++◌, ◌≡◌}
 use Rattle.safl_probe.specs.Texts.{value_texts}
-use Rattle.safl_probe.specs.Entries.{nameless, numbers}
 use Rattle.safl_probe.proofs.vcd_text.push_values.Given as goal
 
 abbrev pub invariant-spots : goal.invariant-spots

@@ -1,7 +1,5 @@
-use Rattle.std.proofs.Common.{ℕ, List, ◌++◌, refl}
+use Rattle.safl_probe.proofs.Common.{Entry, List, refl, watched_all, watched_in, ℕ, ◌++◌}
 use Rattle.safl_probe.specs.Texts.{variable_texts, variable}
-use Rattle.safl_probe.specs.Entries.{watched_all, watched_in}
-use Rattle.safl_probe.specs.declared.entry.Entry.{Entry}
 use Rattle.safl_probe.proofs.Rest.{rest_more, rest_none, drop_or}
 use Rattle.safl_probe.proofs.vcd_text.push_variables.Goals as goal
 

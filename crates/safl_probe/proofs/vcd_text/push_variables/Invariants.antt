@@ -1,6 +1,4 @@
-use Rattle.std.proofs.Common.{◌≡◌, ◌++◌, drop}
-use Rattle.safl_probe.specs.Texts.{variable_texts}
-use Rattle.safl_probe.specs.Entries.{watched_all}
+use Rattle.safl_probe.proofs.Common.{drop, variable_texts, watched_all, ◌++◌, ◌≡◌}
 use Rattle.safl_probe.proofs.vcd_text.push_variables.Given as goal
 
 abbrev pub invariant-entries : goal.invariant-entries

@@ -1,8 +1,5 @@
+use Rattle.safl_probe.proofs.Common.{asked, false≢true, get_or-map, length-map, lower_or_last}
 use Rattle.std.proofs.Common.{◌≡◌, ℕ, ◌+◌, ◌<◌, List, get_or, length, false, Option, Some, None, is_some, String, string_bytes, option_map, Global, refl, sym, ap, ◌∙◌, inl, inr, arith}
-use Rattle.std.proofs.lemmas.List.{get_or-map, length-map}
-use Rattle.std.proofs.lemmas.Bool.{false≢true}
-use Rattle.safl_word.proofs.Naturals.{lower_or_last}
-use Rattle.safl_probe.specs.Asked.{asked}
 use Rattle.safl_probe.proofs.Growing.{is_within}
 use Rattle.safl_probe.proofs.watch.is_any_asked.Goals as goal
 

@@ -1,15 +1,10 @@
+use Rattle.safl_probe.proofs.Common.{HasWidths, Netlist, Valuation, asked, err_from_is_err_and, reads_same, reads_then}
 use Rattle.std.proofs.Common.{◌≡◌, ◌+◌, [], ◌∷◌, ◌++◌, map, length, slice_index, refl, sym, ap, subst, ◌∙◌, arith, inl, inr}
-use Rattle.std.proofs.lemmas.Result.{err_from_is_err_and}
 use Rattle.std.proofs.lemmas.List.{length_push}
 use Rattle.safl_word.proofs.Lists.{get_pushed}
-use Rattle.safl_io.proofs.Keeping.{reads_same, reads_then}
-use Rattle.safl_net.specs.Netlist.{Netlist}
-use Rattle.safl_net.specs.Valuations.{Valuation}
 use Rattle.safl_run.specs.Steps.{IsCalled, Goes}
 use Rattle.safl_run.proofs.Going.{going_none}
 use Rattle.safl_run.proofs.Stepping.{goes_along, goes_call, goes_on, replied}
-use Rattle.safl_probe.specs.Rooms.{HasWidths}
-use Rattle.safl_probe.specs.Asked.{asked}
 use Rattle.safl_probe.proofs.Growing.{strays_none}
 use Rattle.safl_probe.proofs.Stops.{stopped_later}
 use Rattle.safl_probe.proofs.Frames.{fits_more, turn_more, watching_more}

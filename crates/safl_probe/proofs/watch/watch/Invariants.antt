@@ -1,12 +1,7 @@
+use Rattle.safl_probe.proofs.Common.{Asked, Files, HasWidths, SameReads, Shown, Valuation, Word, asked}
 use Rattle.std.proofs.Common.{◌≡◌, ◌<◌, List, map, length, slice_index, Option, OnSome}
-use Rattle.safl_io.specs.Shelf.{Files, SameReads}
-use Rattle.safl_net.specs.Valuations.{Valuation}
-use Rattle.safl_probe.specs.Rooms.{HasWidths}
-use Rattle.safl_probe.specs.Asked.{Asked, asked}
 use Rattle.safl_probe.specs.Growth.{AllThere}
 use Rattle.safl_probe.specs.Stopping.{KeepsProbes}
-use Rattle.safl_probe.specs.Rounds.{Shown}
-use Rattle.safl_word.specs.Words.{Word}
 use Rattle.safl_sim.specs.Places.{HasWords}
 use Rattle.safl_run.specs.Steps.{IsCalled, IsGoing}
 use Rattle.safl_probe.specs.declared.moment.Moment.TheVariants as moments

@@ -1,13 +1,8 @@
+use Rattle.safl_reshape.proofs.Common.{IfOk-weaker, callee, change_of, is_site, shown_bounds, shown_labelled, shown_tree, shown_trees}
+use Rattle.safl_reshape.proofs.Common.{site_plain, sites_bounds, sites_in_tree, sites_labelled, trees_of}
 use Rattle.std.proofs.Common.{◌≡◌, ◌-◌, ◌+◌, suc, refl, sym, ap, ◌∙◌, arith}
-use Rattle.std.proofs.lemmas.Result.{IfOk-weaker}
 use Rattle.safl_word.proofs.Options.{on_ok_always}
-use Rattle.safl_tree.specs.Tree.{trees_of}
-use Rattle.safl_tree.specs.Shown.{shown_tree, shown_trees, shown_bounds, shown_labelled}
-use Rattle.safl_typing.specs.Heads.{callee, is_site}
 use Rattle.safl_typing.specs.PlainHeads.{known, site_of}
-use Rattle.safl_typing.proofs.HeadsByName.{site_plain}
-use Rattle.safl_reshape.specs.Changed.{sites_in_tree}
-use Rattle.safl_reshape.specs.Lists.{change_of, sites_bounds, sites_labelled}
 use Rattle.safl_reshape.proofs.ChangedNodes.{if_done, let_done, case_done, op_done, call_done, left_if, left_let, left_case, left_op, left_call}
 use Rattle.safl_reshape.proofs.ListsLeft.{list_more, bounds_more, arms_more, list_left, bounds_left, arms_left}
 use Rattle.safl_reshape.proofs.change.+changing.Goals as goal

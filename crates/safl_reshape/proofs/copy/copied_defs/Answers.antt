@@ -1,7 +1,5 @@
+use Rattle.safl_reshape.proofs.Common.{Def, Definition, slice_get_read}
 use Rattle.std.proofs.Common.{◌≡◌, ◌<◌, ℕ, List, Option, Some, false, ap, sym, refl, ◌∙◌, arith, length}
-use Rattle.std.proofs.lemmas.Option.{slice_get_read}
-use Rattle.safl_tree.specs.declared.tree.Def.{Def}
-use Rattle.safl_tree.specs.Tree.{Definition}
 use Rattle.safl_tree.specs.Shown.{shown_definition, shown_definitions}
 use Rattle.safl_reshape.specs.Reshaped.{copy_name, copied, copied_as, copied_under}
 use Rattle.safl_reshape.specs.Refusals.{HasSite, is_grouped, is_taken, name_for}

@@ -1,14 +1,6 @@
+use Rattle.safl_reshape.proofs.Common.{Arm, Bind, Expr, drop_all, is_site, known, nodes_bounds, nodes_labelled, nodes_list, shown_bounds}
+use Rattle.safl_reshape.proofs.Common.{shown_labelled, shown_trees, site_plain, sites_bounds, sites_labelled, sites_list}
 use Rattle.std.proofs.Common.{◌≡◌, List, [], drop, ap, sym, ◌∙◌, subst, arith}
-use Rattle.std.proofs.lemmas.List.{drop_all}
-use Rattle.safl_tree.specs.declared.tree.Expr.{Expr}
-use Rattle.safl_tree.specs.declared.tree.Bind.{Bind}
-use Rattle.safl_tree.specs.declared.tree.Arm.{Arm}
-use Rattle.safl_tree.specs.Shown.{shown_trees, shown_bounds, shown_labelled}
-use Rattle.safl_typing.specs.Heads.{is_site}
-use Rattle.safl_typing.specs.PlainHeads.{known}
-use Rattle.safl_typing.proofs.HeadsByName.{site_plain}
-use Rattle.safl_reshape.specs.Counting.{nodes_list, nodes_bounds, nodes_labelled}
-use Rattle.safl_reshape.specs.Lists.{sites_list, sites_bounds, sites_labelled}
 use Rattle.safl_reshape.proofs.Counted.{Left, if_adds, let_adds, case_adds, op_adds, call_adds, adds_more, left_less, all_left, none_left, list_nodes_left, bounds_nodes_left, arms_nodes_left}
 use Rattle.safl_reshape.proofs.ListsLeft.{list_left, bounds_left, arms_left}
 use Rattle.safl_reshape.proofs.counts.+counting.Goals as goal

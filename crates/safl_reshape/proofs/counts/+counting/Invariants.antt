@@ -1,8 +1,5 @@
-use Rattle.std.proofs.Common.{drop}
+use Rattle.safl_reshape.proofs.Common.{drop, known, nodes_bounds, nodes_labelled, nodes_list, sites_bounds, sites_labelled, sites_list}
 use Rattle.safl_tree.specs.Shown.{shown_trees, shown_bounds, shown_labelled}
-use Rattle.safl_typing.specs.PlainHeads.{known}
-use Rattle.safl_reshape.specs.Counting.{nodes_list, nodes_bounds, nodes_labelled}
-use Rattle.safl_reshape.specs.Lists.{sites_list, sites_bounds, sites_labelled}
 use Rattle.safl_reshape.proofs.Counted.{Left}
 use Rattle.safl_reshape.proofs.counts.+counting.Given as goal
 

@@ -1,8 +1,5 @@
+use Rattle.safl_reshape.proofs.Common.{Head, change_of, changed, heads, shown_definitions, shown_tree, sites_in_tree}
 use Rattle.std.proofs.Common.{◌≡◌, ◌-◌, ◌+◌, suc, List, subst, arith}
-use Rattle.safl_tree.specs.Shown.{shown_tree, shown_definitions}
-use Rattle.safl_typing.specs.Heads.{Head, heads}
-use Rattle.safl_reshape.specs.Changed.{changed, sites_in_tree}
-use Rattle.safl_reshape.specs.Lists.{change_of}
 use Rattle.safl_reshape.proofs.ListsLeft.{defs_more}
 use Rattle.safl_reshape.proofs.defs.change_defs.Goals as goal
 

@@ -1,6 +1,5 @@
-use Rattle.std.proofs.Common.{List, ap, ◌∙◌}
+use Rattle.safl_reshape.proofs.Common.{List, Parameter, ap, ◌∙◌}
 use Rattle.std.specs.Prelude.{ℕ}
-use Rattle.safl_tree.specs.Tree.{Parameter}
 use Rattle.safl_tree.specs.Shown.{shown_parameter}
 use Rattle.safl_reshape.proofs.ListsLeft.{same_more}
 use Rattle.safl_reshape.proofs.defs.copy_params.Goals as goal

@@ -1,12 +1,7 @@
+use Rattle.safl_reshape.proofs.Common.{Def, Head, calls, heads, heads_length, is_member, rewritten, shown_definitions, shown_tree}
 use Rattle.std.proofs.Common.{◌≡◌, ◌<◌, List, ap, sym, ◌∙◌, arith, length}
-use Rattle.safl_tree.specs.declared.tree.Def.{Def}
-use Rattle.safl_tree.specs.Shown.{shown_tree, shown_definitions}
-use Rattle.safl_typing.specs.Heads.{Head, heads}
 use Rattle.safl_typing.specs.PlainHeads.{shown_heads, known}
-use Rattle.safl_typing.specs.Rewriting.{rewritten}
-use Rattle.safl_typing.proofs.Placing.{heads_length}
 use Rattle.safl_typing.proofs.HeadsByName.{heads_count}
-use Rattle.safl_reshape.specs.Changed.{calls, is_member}
 use Rattle.safl_reshape.specs.Reshaped.{is_recursive}
 use Rattle.safl_reshape.specs.Refusals.{HasSite}
 use Rattle.safl_reshape.proofs.Putting.{shown_length}

@@ -1,12 +1,6 @@
+use Rattle.safl_reshape.proofs.Common.{Def, Head, drop_all, heads, nodes_of, shown_definitions, shown_tree, site_total, sites_in_tree}
 use Rattle.std.proofs.Common.{◌≡◌, List, [], drop, subst, arith}
-use Rattle.std.proofs.lemmas.List.{drop_all}
-use Rattle.safl_tree.specs.declared.tree.Def.{Def}
-use Rattle.safl_tree.specs.Shown.{shown_tree, shown_definitions}
-use Rattle.safl_typing.specs.Heads.{Head, heads}
 use Rattle.safl_typing.specs.Rewriting.{rewritten, nodes}
-use Rattle.safl_typing.specs.Forms.{nodes_of}
-use Rattle.safl_reshape.specs.Limits.{site_total}
-use Rattle.safl_reshape.specs.Changed.{sites_in_tree}
 use Rattle.safl_reshape.specs.Counting.{Adds}
 use Rattle.safl_reshape.proofs.Counted.{Left, left_less, all_left, none_left, total_left, defs_nodes_left}
 use Rattle.safl_reshape.proofs.limits.count_defs.Goals as goal

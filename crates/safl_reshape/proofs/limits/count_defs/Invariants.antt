@@ -1,8 +1,4 @@
-use Rattle.std.proofs.Common.{drop}
-use Rattle.safl_tree.specs.Shown.{shown_definitions}
-use Rattle.safl_typing.specs.Heads.{heads}
-use Rattle.safl_typing.specs.Forms.{nodes_of}
-use Rattle.safl_reshape.specs.Limits.{site_total}
+use Rattle.safl_reshape.proofs.Common.{drop, heads, nodes_of, shown_definitions, site_total}
 use Rattle.safl_reshape.proofs.Counted.{Left}
 use Rattle.safl_reshape.proofs.limits.count_defs.Given as goal
 

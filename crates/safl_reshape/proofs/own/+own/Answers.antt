@@ -1,6 +1,4 @@
-use Rattle.std.proofs.Common.{sym, ap, ◌∙◌}
-use Rattle.safl_typing.specs.PlainHeads.{known}
-use Rattle.safl_reshape.specs.Changed.{is_member}
+use Rattle.safl_reshape.proofs.Common.{ap, is_member, known, sym, ◌∙◌}
 use Rattle.safl_reshape.proofs.CalledMembers.{if_calls, arms_go_on, let_calls, case_calls, op_calls, call_calls}
 use Rattle.safl_reshape.proofs.own.+own.Goals as goal
 use Rattle.safl_reshape.proofs.own.+own.Goals.{calls_own-then-calls_own, calls_own-else-calls_own}

@@ -1,13 +1,6 @@
-use Rattle.std.proofs.Common.{◌≡◌, sym, subst, List, arith}
-use Rattle.std.proofs.lemmas.Result.{err_from_is_err_and}
-use Rattle.safl_term.specs.Program.{Program}
-use Rattle.safl_tree.specs.declared.tree.Def.{Def}
-use Rattle.safl_tree.specs.Shown.{shown_definitions, shown_program}
-use Rattle.safl_tree.specs.Printable.{AllKeepLevels}
-use Rattle.safl_typing.specs.Forms.{shown_form}
+use Rattle.safl_reshape.proofs.Common.{AllKeepLevels, Def, IsAlike, KeepsLimits, List, Program, arith, err_from_is_err_and}
+use Rattle.safl_reshape.proofs.Common.{shown_definitions, shown_form, shown_program, subst, sym, ◌≡◌}
 use Rattle.safl_check.specs.Numbered.{program_in}
-use Rattle.safl_reshape.specs.Laws.{IsAlike}
-use Rattle.safl_reshape.specs.Limits.{KeepsLimits}
 use Rattle.safl_reshape.specs.Reshaped.{copied}
 use Rattle.safl_reshape.specs.Refusals.{RefusesCopy, RefusesLimit, MayCopy}
 use Rattle.safl_reshape.proofs.CopyHolds.{any_form, limit_refused, good_copy}

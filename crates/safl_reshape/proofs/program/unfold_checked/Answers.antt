@@ -1,13 +1,6 @@
-use Rattle.std.proofs.Common.{◌≡◌, sym, subst, List}
-use Rattle.std.proofs.lemmas.Result.{err_from_is_err_and}
-use Rattle.safl_term.specs.Program.{Program}
-use Rattle.safl_tree.specs.declared.tree.Def.{Def}
-use Rattle.safl_tree.specs.Shown.{shown_definitions, shown_program}
-use Rattle.safl_tree.specs.Printable.{AllKeepLevels}
-use Rattle.safl_typing.specs.Forms.{shown_form}
+use Rattle.safl_reshape.proofs.Common.{AllKeepLevels, Def, KeepsLimits, List, Program, Spares, err_from_is_err_and, shown_definitions}
+use Rattle.safl_reshape.proofs.Common.{shown_form, shown_program, subst, sym, ◌≡◌}
 use Rattle.safl_check.specs.Numbered.{program_in}
-use Rattle.safl_reshape.specs.Laws.{Spares}
-use Rattle.safl_reshape.specs.Limits.{KeepsLimits}
 use Rattle.safl_reshape.specs.Reshaped.{unfolded}
 use Rattle.safl_reshape.specs.Refusals.{RefusesUnfolding, RefusesLimit, MayUnfold}
 use Rattle.safl_reshape.proofs.CopyHolds.{any_form, unfolding_limit_refused, good_unfolding}

@@ -1,11 +1,6 @@
+use Rattle.safl_reshape.proofs.Common.{IfOk-weaker, Param, nat_tests, shown_bounds, shown_parameters, shown_tree, shown_trees, zipped, ◌==◌}
 use Rattle.std.proofs.Common.{◌≡◌, ◌<◌, List, Bool, false, ℕ, ap, sym, ◌∙◌, arith, length}
-use Rattle.std.specs.Prelude.{◌==◌}
-use Rattle.std.proofs.lemmas.Result.{IfOk-weaker}
 use Rattle.std.proofs.lemmas.List.{length-map}
-use Rattle.std.proofs.lemmas.Bool.Decides.{nat_tests}
-use Rattle.safl_tree.specs.declared.tree.Param.{Param}
-use Rattle.safl_tree.specs.Shown.{shown_tree, shown_trees, shown_bounds, shown_parameters}
-use Rattle.safl_reshape.specs.Lists.{zipped}
 use Rattle.safl_reshape.proofs.BoundParams.{under_done}
 use Rattle.safl_reshape.proofs.unfold.place_under.Goals as goal
 

@@ -1,7 +1,6 @@
+use Rattle.safl_session.proofs.Common.{Sends, SendsPart, TellsOn}
 use Rattle.std.proofs.Common.{ℕ, ◌∙◌, subst, arith}
 use Rattle.safl_word.proofs.Options.{on_err_always}
-use Rattle.safl_io.specs.Sink.{Sends, SendsPart}
-use Rattle.safl_io.specs.Told.{TellsOn}
 use Rattle.safl_session.specs.Holding.{IsBegun}
 use Rattle.safl_session.specs.Transcripts.{calls_line}
 use Rattle.safl_session.proofs.Holds.{next_arguments, held_more, reply_begun, late_held, late_begun, all_held, all_begun}

@@ -16,7 +16,7 @@ places-preserved c =
     let all = c.in_ok-append.ensures v here in
     let count : c.len.result ≡ length (readers ++ v) = (let a = c.len.ensures in let b = ap length all in let d = c.append.new.out.ok.0 in omega (arith, a, b, d)) in
     subst (λ (l : List ℕ). AreFlat lists c.push-in-places.new.self.items l (p + 1)) (sym all)
-    (subst (λ (l : List ℕ). AreFlat lists l (readers ++ v) (p + 1)) (sym (c.in_ok-push-2.ensures.items ∙ ap (λ (x : ℕ). starts ++ x ∷ []) (c.in_ok-end.ensures ∙ count))) w)
+    (subst (λ (l : List ℕ). AreFlat lists l (readers ++ v) (p + 1)) (sym (c.in_ok-push-2.ensures.items ∙ ap (λ (x : ℕ). starts ++ x ∷ []) (c.in_ok-end.ensures.number ∙ count))) w)
 
 pub returns : goal.returns
 returns c = subst (λ k. AreFlat c.args.lists.now c.places.starts.items c.places.readers.items k)

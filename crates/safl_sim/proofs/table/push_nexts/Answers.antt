@@ -26,7 +26,7 @@ registers-preserved c =
       lists = λ n ws e w.
           let p : ℕ = first_register (length ws) + k in
           let before = subst (λ x. AreLists n ws regs x 0 lists) (let z : c.args.first + (length regs - i) ≡ p + 1 = omega (arith, e, early) in z) (c.registers.invariant.lists n ws e w) in
-          let number : mark ≡ p = (let a = c.in_ok-mark.ensures in omega (arith, a, e)) in
+          let number : mark ≡ p = (let a = c.in_ok-mark.ensures.number in omega (arith, a, e)) in
           subst (λ l. AreLists n ws regs (c.args.first + (length regs - (i + 1))) 0 l) (sym (c.in_ok-push.ensures.pushed v here))
           (subst (λ x. AreLists n ws regs x 0 (set lists r.next.0 (mark ∷ v))) (let z : p ≡ c.args.first + (length regs - (i + 1)) = omega (arith, e, early) in z)
           (subst (λ y. AreLists n ws regs p 0 (set lists r.next.0 (y ∷ v))) (sym number) (lists_register n ws regs k r lists v before at here)));

@@ -1,8 +1,6 @@
+use Rattle.safl_sites.proofs.Common.{Adds, Has, IsCollected, IsCommon, Meets, no_set, unit_for}
 use Rattle.std.proofs.Common.{◌≡◌, ℕ, ◌-◌, true, get_or, slice_set, arith, sym, subst}
 use Rattle.std.proofs.lemmas.Bool.{both_ways}
-use Rattle.safl_term.specs.Program.{unit_for}
-use Rattle.safl_sites.specs.Collecting.{IsCollected}
-use Rattle.safl_sites.specs.SiteSets.{Has, Adds, IsCommon, Meets, no_set}
 use Rattle.safl_sites.proofs.ConflictsByOne.{collected_more, collected_none}
 use Rattle.safl_sites.proofs.PeersByOne.{unit_within}
 use Rattle.safl_sites.proofs.collect.collect_site.Goals as goal

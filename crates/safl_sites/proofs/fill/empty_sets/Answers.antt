@@ -1,6 +1,5 @@
+use Rattle.safl_sites.proofs.Common.{HasAt, SiteSet}
 use Rattle.std.proofs.Common.{◌≡◌, List, replicate, subst}
-use Rattle.safl_sites.specs.declared.site_set.SiteSet.{SiteSet}
-use Rattle.safl_sites.specs.SiteSets.{HasAt}
 use Rattle.safl_sites.proofs.TablesByBodies.{empty_table}
 use Rattle.safl_sites.proofs.fill.empty_sets.Goals as goal
 

@@ -1,10 +1,8 @@
+use Rattle.safl_sites.proofs.Common.{MayReach, Reaches, Term}
 use Rattle.std.proofs.Common.{◌≡◌, ℕ, suc, length, slice_set, sym, subst, arith}
 use Rattle.std.proofs.lemmas.Bool.{both_ways}
-use Rattle.safl_term.specs.Terms.{Term}
-use Rattle.safl_sites.specs.Conflicts.{Reaches}
 use Rattle.safl_sites.specs.Filling.{IsFilled}
 use Rattle.safl_sites.specs.Parallel.{Marked}
-use Rattle.safl_sites.specs.Reach.{MayReach}
 use Rattle.safl_sites.specs.SiteSets.{has, Has, HasAt, Adds}
 use Rattle.safl_sites.proofs.TablesByBodies.{body_may_reach, filled_more}
 use Rattle.safl_sites.proofs.fill.fill_body.Goals as goal

@@ -1,12 +1,7 @@
+use Rattle.safl_sites.proofs.Common.{Adds, Cons, Has, SiteSet, nil_from_length, shown_term, shown_terms, some_nodes}
 use Rattle.std.proofs.Common.{rules, ◌≡◌, ℕ, ◌≤◌, List, ◌∷◌, ◌++◌, length, refl, sym, ap, subst, ◌∙◌, arith}
-use Rattle.std.proofs.lemmas.List.{nil_from_length}
 use Rattle.safl_term.specs.declared.term.Term as declared
-use Rattle.safl_term.specs.Terms.{Cons}
-use Rattle.safl_term.specs.Tree.{shown_term, shown_terms}
-use Rattle.safl_term.proofs.PlainTerms.{some_nodes}
-use Rattle.safl_sites.specs.declared.site_set.SiteSet.{SiteSet}
 use Rattle.safl_sites.specs.Keeping.{MayKeepIn, IsHeldHere, Binds}
-use Rattle.safl_sites.specs.SiteSets.{Has, Adds}
 use Rattle.safl_sites.proofs.AbleByParts.{keep_cond, keep_then, keep_else, keep_bound, keep_body, keep_op, keep_args, keep_loop, keep_first}
 use Rattle.safl_sites.proofs.AbleByParts.{keep_rest, keep_slots, keep_slots_in, slot_within, bound_length}
 use Rattle.safl_sites.proofs.FoundByParts.{walks_const, walks_var, walks_op, walks_loop, walks_call, walks_if, walks_let, walks_none, walks_more, binds_none, binds_more}

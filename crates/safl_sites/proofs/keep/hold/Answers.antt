@@ -1,12 +1,7 @@
+use Rattle.safl_sites.proofs.Common.{Adds, Has, IsHeldHere, IsTouched, Meets, SiteSet, no_set, shown_term, unit_for}
 use Rattle.std.proofs.Common.{◌≡◌, ℕ, ◌+◌, ◌⊎◌, get_or, refl, sym, ◌∙◌, subst, inl, inr, arith}
 use Rattle.std.proofs.lemmas.Bool.{both_ways}
-use Rattle.safl_term.specs.Program.{unit_for}
-use Rattle.safl_term.specs.Tree.{shown_term}
-use Rattle.safl_sites.specs.declared.site_set.SiteSet.{SiteSet}
-use Rattle.safl_sites.specs.Keeping.{IsHeldHere}
 use Rattle.safl_sites.specs.Kept.{InBody}
-use Rattle.safl_sites.specs.SiteSets.{Has, Adds, Meets, no_set}
-use Rattle.safl_sites.specs.Touched.{IsTouched}
 use Rattle.safl_sites.proofs.LetsReach.{looked_more, held_here, held_meets}
 use Rattle.safl_sites.proofs.FoundByParts.{full}
 use Rattle.safl_sites.proofs.keep.hold.Goals as goal

@@ -1,5 +1,4 @@
-use Rattle.std.proofs.Common.{sym, ◌∙◌}
-use Rattle.safl_term.specs.Tree.{shown_term}
+use Rattle.safl_sites.proofs.Common.{shown_term, sym, ◌∙◌}
 use Rattle.safl_sites.proofs.LetsReach.{in_body_call, in_body_other, in_body_const, in_body_var, not_if, not_let, not_op, not_loop}
 use Rattle.safl_sites.proofs.PartsOfParts.{may_args}
 use Rattle.safl_sites.proofs.keep.reach_body.Goals as goal

@@ -1,6 +1,5 @@
-use Rattle.std.proofs.Common.{ℕ}
+use Rattle.safl_sites.proofs.Common.{Adds, Has, ℕ}
 use Rattle.safl_sites.specs.Bodies.{IsKeptBelow}
-use Rattle.safl_sites.specs.SiteSets.{Has, Adds}
 use Rattle.safl_sites.proofs.kept.keep_all.Given as goal
 
 abbrev pub invariant-loop-g : goal.invariant-loop-g

@@ -1,10 +1,5 @@
-use Rattle.std.proofs.Common.{◌≡◌, ℕ, length, get_or, sym, ◌∙◌, subst}
-use Rattle.safl_term.specs.Program.{arity}
-use Rattle.safl_term.specs.Terms.{Term}
-use Rattle.safl_term.specs.Tree.{shown_term}
-use Rattle.safl_sites.specs.declared.keep.Keeping.{Keeping}
+use Rattle.safl_sites.proofs.Common.{Keeping, Term, arity, get_or, length, no_set, shown_term, subst, sym, ℕ, ◌∙◌, ◌≡◌}
 use Rattle.safl_sites.specs.Keeping.{MayKeep, Walks}
-use Rattle.safl_sites.specs.SiteSets.{no_set}
 use Rattle.safl_sites.proofs.KeptByBodies.{body_may_keep, body_kept}
 use Rattle.safl_sites.proofs.kept.keep_body.Goals as goal
 

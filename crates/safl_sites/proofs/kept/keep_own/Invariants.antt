@@ -1,6 +1,5 @@
-use Rattle.std.proofs.Common.{ℕ, ◌+◌}
+use Rattle.safl_sites.proofs.Common.{Adds, Has, ℕ, ◌+◌}
 use Rattle.safl_sites.specs.Bodies.{IsOwnKept}
-use Rattle.safl_sites.specs.SiteSets.{Has, Adds}
 use Rattle.safl_sites.proofs.kept.keep_own.Given as goal
 
 abbrev pub invariant-loop-i : goal.invariant-loop-i

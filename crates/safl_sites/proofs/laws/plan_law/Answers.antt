@@ -1,5 +1,4 @@
-use Rattle.std.proofs.Common.{refl}
-use Rattle.safl_term.specs.Program.{unit_for}
+use Rattle.safl_sites.proofs.Common.{refl, unit_for}
 use Rattle.safl_sites.proofs.laws.plan_law.Goals as goal
 
 pub returns : goal.returns

@@ -1,9 +1,6 @@
+use Rattle.safl_sites.proofs.Common.{MayReachIn, nil_from_length, shown_term, shown_terms, some_nodes}
 use Rattle.std.proofs.Common.{rules, ◌<◌, List, length, length-set, subst, arith}
-use Rattle.std.proofs.lemmas.List.{nil_from_length}
 use Rattle.safl_term.specs.declared.term.Term as declared
-use Rattle.safl_term.specs.Tree.{shown_term, shown_terms}
-use Rattle.safl_term.proofs.PlainTerms.{some_nodes}
-use Rattle.safl_sites.specs.Reach.{MayReachIn}
 use Rattle.safl_sites.proofs.PartsOfParts.{may_cond, may_then, may_else, may_bound, may_body, may_op, may_args, may_loop, may_first, may_rest, may_call}
 use Rattle.safl_sites.proofs.SetsJoined.{mark_if, mark_let, mark_op, mark_loop, mark_call, mark_more, mark_const, mark_var, mark_nil, set_more}
 use Rattle.safl_sites.proofs.parallel.+mark.Goals as goal

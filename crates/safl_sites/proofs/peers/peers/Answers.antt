@@ -1,8 +1,4 @@
-use Rattle.std.proofs.Common.{◌≡◌, ℕ, ◌+◌, ◌<◌, length, slice_set, arith, sym, subst}
-use Rattle.safl_term.specs.Program.{unit_for}
-use Rattle.safl_sites.specs.declared.site_set.SiteSet.{SiteSet}
-use Rattle.safl_sites.specs.Peers.{ArePeers}
-use Rattle.safl_sites.specs.SiteSets.{Has, HasAt, Adds}
+use Rattle.safl_sites.proofs.Common.{Adds, ArePeers, Has, HasAt, SiteSet, arith, length, slice_set, subst, sym, unit_for, ℕ, ◌+◌, ◌<◌, ◌≡◌}
 use Rattle.safl_sites.proofs.PeersByOne.{peers_more}
 use Rattle.safl_sites.proofs.SetsByWords.{set_found}
 use Rattle.safl_sites.proofs.peers.peers.Goals as goal

@@ -1,9 +1,5 @@
-use Rattle.std.proofs.Common.{rules, List, subst, arith}
-use Rattle.std.proofs.lemmas.List.{nil_from_length}
+use Rattle.safl_sites.proofs.Common.{List, MayReachIn, arith, nil_from_length, rules, shown_term, shown_terms, some_nodes, subst}
 use Rattle.safl_term.specs.declared.term.Term as declared
-use Rattle.safl_term.specs.Tree.{shown_term, shown_terms}
-use Rattle.safl_term.proofs.PlainTerms.{some_nodes}
-use Rattle.safl_sites.specs.Reach.{MayReachIn}
 use Rattle.safl_sites.proofs.AddsInSteps.{adds_then}
 use Rattle.safl_sites.proofs.PartsOfParts.{may_cond, may_then, may_else, may_bound, may_body, may_op, may_args, may_loop, may_first, may_rest, may_call}
 use Rattle.safl_sites.proofs.ReachBySites.{reach_if, reach_let, reach_op, reach_loop, reach_call, reach_const, reach_var, reach_more, reach_nil, set_of_unit, site_below}

@@ -1,5 +1,4 @@
-use Rattle.std.proofs.Common.{◌-◌}
-use Rattle.safl_sites.specs.Spreading.{IsSpread}
+use Rattle.safl_sites.proofs.Common.{IsSpread, ◌-◌}
 use Rattle.safl_sites.proofs.spread.spread.Given as goal
 
 abbrev pub invariant-loop-done : goal.invariant-loop-done

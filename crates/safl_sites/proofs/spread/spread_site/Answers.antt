@@ -1,7 +1,4 @@
-use Rattle.std.proofs.Common.{◌≡◌, ℕ, ◌-◌, slice_set, sym, ap, subst, ◌∙◌, arith}
-use Rattle.safl_term.specs.Program.{unit_for}
-use Rattle.safl_sites.specs.SiteSets.{Has, HasAt, Adds}
-use Rattle.safl_sites.specs.Spreading.{IsSpread}
+use Rattle.safl_sites.proofs.Common.{Adds, Has, HasAt, IsSpread, ap, arith, slice_set, subst, sym, unit_for, ℕ, ◌-◌, ◌∙◌, ◌≡◌}
 use Rattle.safl_sites.proofs.BeforeByCalls.{spread_more}
 use Rattle.safl_sites.proofs.spread.spread_site.Goals as goal
 

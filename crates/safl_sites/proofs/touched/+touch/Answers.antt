@@ -1,7 +1,4 @@
-use Rattle.std.proofs.Common.{rules, arith}
-use Rattle.std.proofs.lemmas.List.{nil_from_length}
-use Rattle.safl_term.specs.Tree.{shown_term}
-use Rattle.safl_term.proofs.PlainTerms.{some_nodes}
+use Rattle.safl_sites.proofs.Common.{arith, nil_from_length, rules, shown_term, some_nodes}
 use Rattle.safl_sites.proofs.SetsTouched.{touch_if, touch_let, touch_op, touch_loop, touch_call, touch_more, touch_const, touch_nil, touch_var, touch_below, touch_past}
 use Rattle.safl_sites.proofs.touched.+touch.Goals as goal
 use Rattle.safl_sites.proofs.touched.+touch.Goals.{touch-else-low-slot-via-then-low-slot+else-slot-slots, touch-else-low-slot-via-else-low-slot}

@@ -1,6 +1,4 @@
-use Rattle.std.proofs.Common.{◌+◌, ◌*◌}
-use Rattle.safl_term.specs.Sizes.{nodes, nodes_in}
-use Rattle.safl_term.specs.Tree.{shown_term, shown_terms}
+use Rattle.safl_sites.proofs.Common.{nodes, nodes_in, shown_term, shown_terms, ◌*◌, ◌+◌}
 use Rattle.safl_sites.proofs.touched.+touch.Given as goal
 
 abbrev pub decreases-touch : goal.decreases-touch

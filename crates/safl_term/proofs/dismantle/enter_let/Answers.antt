@@ -1,6 +1,4 @@
-use Rattle.std.proofs.Common.{ap, arith}
-use Rattle.safl_word.proofs.Naturals.{work_down}
-use Rattle.safl_term.specs.Weights.{code_weight}
+use Rattle.safl_term.proofs.Common.{ap, arith, code_weight, work_down}
 use Rattle.safl_term.proofs.Dismantling.{let_weight}
 use Rattle.safl_term.proofs.dismantle.enter_let.Goals as goal
 

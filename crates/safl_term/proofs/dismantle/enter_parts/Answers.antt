@@ -1,6 +1,5 @@
-use Rattle.std.proofs.Common.{arith}
+use Rattle.safl_term.proofs.Common.{arith, work_down}
 use Rattle.safl_word.specs.declared.primitive.Primitive.TheVariants as prims
-use Rattle.safl_word.proofs.Naturals.{work_down}
 use Rattle.safl_term.proofs.Dismantling.{op_weight}
 use Rattle.safl_term.proofs.dismantle.enter_parts.Goals as goal
 

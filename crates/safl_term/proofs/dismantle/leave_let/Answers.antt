@@ -1,6 +1,4 @@
-use Rattle.std.proofs.Common.{arith}
-use Rattle.safl_word.proofs.Lists.{sum_last}
-use Rattle.safl_term.specs.Weights.{code_weight}
+use Rattle.safl_term.proofs.Common.{arith, code_weight, sum_last}
 use Rattle.safl_term.proofs.Dismantling.{let_weight}
 use Rattle.safl_term.proofs.dismantle.leave_let.Goals as goal
 

@@ -1,7 +1,5 @@
-use Rattle.std.proofs.Common.{arith}
+use Rattle.safl_term.proofs.Common.{arith, code_weight, sum_last}
 use Rattle.safl_word.specs.declared.primitive.Primitive.TheVariants as prims
-use Rattle.safl_word.proofs.Lists.{sum_last}
-use Rattle.safl_term.specs.Weights.{code_weight}
 use Rattle.safl_term.proofs.Dismantling.{op_weight}
 use Rattle.safl_term.proofs.dismantle.leave_parts.Goals as goal
 

@@ -1,15 +1,8 @@
+use Rattle.safl_tool.proofs.Common.{Answer, AreAskedFor, Asked, ProbeState, ShelfState, SinkState, asked, on_ok_always, outside}
 use Rattle.std.proofs.Common.{List, map, sym, subst}
-use Rattle.safl_io.specs.Shelf.{ShelfState}
-use Rattle.safl_io.specs.Sink.{SinkState}
-use Rattle.safl_probe.specs.Probing.{ProbeState}
-use Rattle.safl_probe.specs.Asked.{Asked, asked}
 use Rattle.safl_probe.proofs.Rounds.{kept_same}
-use Rattle.safl_task.specs.Endings.{outside}
 use Rattle.safl_tool.specs.Answers.{CanBeGiven, GivesBy, traces_for}
-use Rattle.safl_tool.specs.Tracing.{AreAskedFor}
-use Rattle.safl_tool.specs.declared.answer.Answer.{Answer}
 use Rattle.std.specs.Prelude.{OnOk}
-use Rattle.safl_word.proofs.Options.{on_ok_always}
 use Rattle.safl_tool.specs.Watched.{ShowsAnswer}
 use Rattle.safl_tool.proofs.Performed.{same_strays}
 use Rattle.safl_tool.proofs.answer.give.Goals as goal

@@ -1,6 +1,5 @@
+use Rattle.safl_tool.proofs.Common.{Sends, SendsPart, SinkState, TellsOn}
 use Rattle.std.proofs.Common.{ℕ, List, Err, ap, subst}
-use Rattle.safl_io.specs.Sink.{SinkState, Sends, SendsPart}
-use Rattle.safl_io.specs.Told.{TellsOn}
 use Rattle.safl_tool.proofs.Handing.{lines_given, lines_begun}
 use Rattle.safl_tool.proofs.answer.print.Goals as goal
 

@@ -1,10 +1,8 @@
+use Rattle.safl_tool.proofs.Common.{Asked, asked, is_any_given, kind_of, traces_given}
 use Rattle.std.proofs.Common.{◌≡◌, ℕ, ◌+◌, ◌<◌, ◌≤◌, List, ◌++◌, map, drop, length, get_or, String, string_bytes, Option, Bool, true, false, not, option_map, refl, sym, ap, ◌∙◌, arith}
 use Rattle.std.specs.declared.alloc.Global.{Global}
 use Rattle.std.proofs.lemmas.List.{map_push}
 use Rattle.safl_command.specs.Traces.{Traces, files}
-use Rattle.safl_probe.specs.Watching.{kind_of}
-use Rattle.safl_probe.specs.Asked.{Asked, asked}
-use Rattle.safl_tool.specs.Asking.{traces_given, is_any_given}
 use Rattle.safl_tool.specs.Tracing.{file_of_kind, without, asked_by, have_probes, kinds_of}
 use Rattle.safl_tool.proofs.Asked.{kind_at, kinds_long, asked_more, left_more, asked_all, left_all}
 use Rattle.safl_tool.proofs.asking.asked_files.Goals as goal

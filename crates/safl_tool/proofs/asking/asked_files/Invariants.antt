@@ -1,7 +1,6 @@
+use Rattle.safl_tool.proofs.Common.{asked, traces_given}
 use Rattle.std.proofs.Common.{◌≡◌, ℕ, List, ◌++◌, map, drop}
 use Rattle.safl_command.specs.Traces.{files}
-use Rattle.safl_probe.specs.Asked.{asked}
-use Rattle.safl_tool.specs.Asking.{traces_given}
 use Rattle.safl_tool.specs.Tracing.{asked_by, have_probes, kinds_of}
 use Rattle.safl_tool.proofs.asking.asked_files.Given as goal
 

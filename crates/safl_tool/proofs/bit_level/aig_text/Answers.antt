@@ -1,9 +1,5 @@
-use Rattle.std.proofs.Common.{subst, sym, refl}
-use Rattle.std.proofs.lemmas.Result.{err_from_is_err_and}
-use Rattle.safl_net.specs.Netlist.{Netlist}
-use Rattle.safl_aig.specs.BitLevel.{IsRefused}
+use Rattle.safl_tool.proofs.Common.{IsRefused, Netlist, RefusesBy, err_from_is_err_and, refl, subst, sym}
 use Rattle.safl_tool.specs.BitLevel.{RefusesNetlist}
-use Rattle.safl_tool.specs.Refusals.{RefusesBy}
 use Rattle.safl_tool.proofs.Bits.{net_refuses, netlist_refuses}
 use Rattle.safl_tool.proofs.bit_level.aig_text.Goals as goal
 
@@ -22,4 +18,4 @@ refusal_of_net-requires c = subst (λ (n : Netlist). IsRefused n c.in-Err.error)
 pub returns-clause-refused : goal.returns-clause-refused
 returns-clause-refused c =
     netlist_refuses c.args.name.now c.args.text.now c.in_ok-ordered.ordered.net c.refusal_of_net.result c.in_ok-ordered.ensures.runnable
-    (subst (λ (n : Netlist). RefusesBy (RefusesNetlist n) c.refusal_of_net.result) c.net.ensures.net c.refusal_of_net.ensures)
+    (subst (λ (n : Netlist). RefusesBy (RefusesNetlist n) c.refusal_of_net.result) c.net.ensures.net c.refusal_of_net.ensures.refuses)

@@ -1,10 +1,7 @@
+use Rattle.safl_tool.proofs.Common.{IfErr, IfOk, RefusesBy, made_args, made_source, source_max}
 use Rattle.std.proofs.Common.{◌≡◌, ◌≤◌, ◌∙◌, ℕ, List, length, map, string_bytes, codes, sym, ap, subst}
-use Rattle.std.specs.Prelude.{IfOk, IfErr}
-use Rattle.safl_word.specs.Limits.{source_max}
 use Rattle.safl_tool.specs.Answers.{printed}
 use Rattle.safl_tool.specs.CommandTasks.{GivesMeasure, RefusesGiven}
-use Rattle.safl_tool.specs.Refusals.{RefusesBy}
-use Rattle.safl_tool.specs.Reporting.{made_args, made_source}
 use Rattle.safl_tool.proofs.generated.bench_lines.Goals as goal
 
 pub measure-requires : goal.measure-requires

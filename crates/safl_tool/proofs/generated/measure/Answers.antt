@@ -1,6 +1,4 @@
-use Rattle.std.proofs.Common.{map, string_bytes}
-use Rattle.std.proofs.lemmas.Result.{err_from_is_err_and}
-use Rattle.safl_net.specs.Arguments.{argument_widths}
+use Rattle.safl_tool.proofs.Common.{argument_widths, err_from_is_err_and, map, string_bytes}
 use Rattle.safl_tool.proofs.Giving.{outcome_given}
 use Rattle.safl_tool.proofs.Simulated.{measures, arguments_refused, source_refused}
 use Rattle.safl_tool.proofs.generated.measure.Goals as goal

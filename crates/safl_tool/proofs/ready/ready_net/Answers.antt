@@ -1,11 +1,6 @@
+use Rattle.safl_tool.proofs.Common.{Netlist, RefusesArguments, RefusesBy, Simulation, argument_widths, err_from_is_err_and}
 use Rattle.std.proofs.Common.{ℕ, List, map, string_bytes, ap, subst, ◌∙◌}
-use Rattle.std.proofs.lemmas.Result.{err_from_is_err_and}
-use Rattle.safl_net.specs.Netlist.{Netlist}
-use Rattle.safl_net.specs.Arguments.{argument_widths}
-use Rattle.safl_sim.specs.Simulation.{Simulation}
 use Rattle.safl_session.specs.Lines.{AreArguments}
-use Rattle.safl_tool.specs.Arguments.{RefusesArguments}
-use Rattle.safl_tool.specs.Refusals.{RefusesBy}
 use Rattle.safl_tool.proofs.ready.ready_net.Goals as goal
 
 pub returns-clause-ready : goal.returns-clause-ready

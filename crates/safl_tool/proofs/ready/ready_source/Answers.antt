@@ -1,8 +1,4 @@
-use Rattle.std.proofs.Common.{map, string_bytes, ap, sym, subst, ◌∙◌}
-use Rattle.std.proofs.lemmas.Result.{err_from_is_err_and}
-use Rattle.safl_net.specs.Netlist.{Netlist}
-use Rattle.safl_net.specs.Whole.{IsWhole}
-use Rattle.safl_net.specs.Arguments.{argument_widths}
+use Rattle.safl_tool.proofs.Common.{IsWhole, Netlist, ap, argument_widths, err_from_is_err_and, map, string_bytes, subst, sym, ◌∙◌}
 use Rattle.safl_tool.specs.Readiness.{IsReady}
 use Rattle.safl_tool.proofs.Simulated.{arguments_refused, source_refused}
 use Rattle.safl_tool.proofs.ready.ready_source.Goals as goal

@@ -1,15 +1,8 @@
-use Rattle.std.proofs.Common.{ℕ, ◌≡◌, ◌≤◌, length, refl, ap, subst}
-use Rattle.std.proofs.lemmas.Result.{err_from_is_err_and, IfErr-weaker}
+use Rattle.safl_tool.proofs.Common.{GivesReshaped, IfErr-weaker, RefusesBy, RefusesReshaping, TellsLong, ap, copies, err_from_is_err_and}
+use Rattle.safl_tool.proofs.Common.{length, only_writes, refl, shown_form, shown_program, source_max, subst, ℕ, ◌≡◌, ◌≤◌}
 use Rattle.safl_tree.specs.Printed.{printed}
-use Rattle.safl_tree.specs.Shown.{shown_program}
-use Rattle.safl_typing.specs.Forms.{shown_form}
 use Rattle.safl_reshape.specs.Refusals.{CopyRefused, IsCopied}
 use Rattle.safl_reshape.specs.declared.error.ReshapeErr.TheVariants as errors
-use Rattle.safl_task.specs.Tasks.{only_writes}
-use Rattle.safl_tool.specs.CommandTasks.{RefusesReshaping}
-use Rattle.safl_word.specs.Limits.{source_max}
-use Rattle.safl_tool.specs.Refusals.{RefusesBy}
-use Rattle.safl_tool.specs.Reshaping.{GivesReshaped, TellsLong, copies}
 use Rattle.safl_tool.proofs.Refusing.{both_ok}
 use Rattle.safl_tool.proofs.Reshaped.{source_unshaped, unshaped, too_long, reshaped_given, no_copy, copy_refused, copy_is, copy_long, copy_given}
 use Rattle.safl_tool.proofs.reshape.copy_text.Goals as goal
@@ -25,7 +18,7 @@ returns-in-None-clause-refused c =
     unshaped (copies c.args.site) c.args.name.now c.args.site c.args.source.now ds c.in_ok-accepted.ensures.spelled
     (shown_form c.in_ok-accepted.accepted.checked, c.in_ok-accepted.ensures.form) errors.NoSite
     (copy_refused ds (shown_form c.in_ok-accepted.accepted.checked, c.in_ok-accepted.ensures.form) c.args.site errors.NoSite
-    (no_copy ds c.in_ok-accepted.ensures.few c.args.site (c.in-None.ensures.none refl))) c.refusal_of.result c.refusal_of.ensures
+    (no_copy ds c.in_ok-accepted.ensures.few c.args.site (c.in-None.ensures.none refl))) c.refusal_of.result c.refusal_of.ensures.tells
 
 pub returns-in-Ok-clause-gives : goal.returns-in-Ok-clause-gives
 returns-in-Ok-clause-gives c =
@@ -60,4 +53,4 @@ returns-clause-refused c =
     unshaped (copies c.args.site) c.args.name.now c.args.site c.args.source.now ds c.in_ok-accepted.ensures.spelled
     (shown_form c.in_ok-accepted.accepted.checked, c.in_ok-accepted.ensures.form) c.in-Err.error
     (copy_refused ds (shown_form c.in_ok-accepted.accepted.checked, c.in_ok-accepted.ensures.form) c.args.site c.in-Err.error
-    (subst (λ (k : ℕ). CopyRefused ds k c.in-Err.error) number c.in-Err.ensures.refused)) c.refusal_of-in-Err.result c.refusal_of-in-Err.ensures
+    (subst (λ (k : ℕ). CopyRefused ds k c.in-Err.error) number c.in-Err.ensures.refused)) c.refusal_of-in-Err.result c.refusal_of-in-Err.ensures.tells

@@ -1,15 +1,10 @@
-use Rattle.std.proofs.Common.{List, map, sym, subst, inr}
-use Rattle.safl_net.specs.declared.cell.Sig.{Sig}
-use Rattle.safl_net.specs.Netlist.{Netlist}
-use Rattle.safl_net.specs.Making.{numbers, name_at}
+use Rattle.safl_tool.proofs.Common.{AreKnown, HasLine, List, Netlist, RefusesBy, Sig, inr, map, name_at, numbers, subst, sym}
 use Rattle.safl_net.proofs.SignalKinds.{set_at}
 use Rattle.safl_order.specs.Refusals.{RefusesOrder}
 use Rattle.safl_order.specs.declared.ordered.OrderErr.{OrderErr}
 use Rattle.safl_vparse.specs.Parsed.{RefusesText}
 use Rattle.safl_vparse.specs.declared.error.VErr.{VErr}
 use Rattle.safl_tool.specs.VerilogLines.{loop_line}
-use Rattle.safl_tool.specs.Running.{AreKnown}
-use Rattle.safl_tool.specs.Refusals.{RefusesBy, HasLine}
 use Rattle.safl_task.specs.declared.status.Status.TheVariants as status
 use Rattle.safl_tool.proofs.Ran.{fault_refuses, loop_refuses, loop_known}
 use Rattle.safl_tool.proofs.run_file.ordered_net.Goals as goal

@@ -1,5 +1,4 @@
-use Rattle.std.proofs.Common.{map, string_bytes}
-use Rattle.std.proofs.lemmas.Result.{err_from_is_err_and}
+use Rattle.safl_tool.proofs.Common.{err_from_is_err_and, map, string_bytes}
 use Rattle.safl_tool.proofs.Ran.{net_refuses, arguments_refuse}
 use Rattle.safl_tool.proofs.run_file.run_text.Goals as goal
 

@@ -1,15 +1,10 @@
+use Rattle.safl_tool.proofs.Common.{Netlist, Opened, Simulation, argument_widths, err_from_is_err_and, resets}
 use Rattle.std.proofs.Common.{◌≡◌, ◌<◌, ◌-◌, ℕ, List, length, true, slice_index, sym, ap, subst, ◌∙◌, arith, inl, inr}
-use Rattle.std.proofs.lemmas.Result.{err_from_is_err_and}
 use Rattle.std.proofs.lemmas.List.{get_or_read}
-use Rattle.safl_net.specs.Netlist.{Netlist}
-use Rattle.safl_net.specs.Arguments.{argument_widths}
-use Rattle.safl_sim.specs.Places.{resets}
-use Rattle.safl_sim.specs.Simulation.{Simulation}
 use Rattle.safl_session.specs.declared.script.ScriptErr.{ScriptErr}
 use Rattle.safl_session.specs.declared.script.ScriptErr.TheVariants as errors
 use Rattle.safl_session.specs.Lines.{Count, Argument}
 use Rattle.safl_session.specs.Scripts.{IsScript, RefusesScript}
-use Rattle.safl_session.specs.Sessions.{Opened}
 use Rattle.safl_tool.specs.CommandTasks.{RefusesSourceOf, RefusesSession}
 use Rattle.safl_tool.proofs.Conversed.{misscripted, placed, count_told, argument_told}
 use Rattle.safl_tool.proofs.Refusing.{refuses_more}

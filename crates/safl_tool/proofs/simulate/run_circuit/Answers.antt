@@ -1,10 +1,5 @@
+use Rattle.safl_tool.proofs.Common.{GivesOutcome, IfErr, IfOk, Netlist, RefusesArguments, RefusesBy, argument_widths}
 use Rattle.std.proofs.Common.{map, string_bytes, subst}
-use Rattle.std.specs.Prelude.{IfOk, IfErr}
-use Rattle.safl_net.specs.Netlist.{Netlist}
-use Rattle.safl_net.specs.Arguments.{argument_widths}
-use Rattle.safl_tool.specs.Refusals.{RefusesBy}
-use Rattle.safl_tool.specs.Arguments.{RefusesArguments}
-use Rattle.safl_tool.specs.Running.{GivesOutcome}
 use Rattle.safl_tool.proofs.simulate.run_circuit.Goals as goal
 
 pub returns-clause-answer : goal.returns-clause-answer

@@ -1,10 +1,5 @@
-use Rattle.std.proofs.Common.{List, map, string_bytes, ap, subst, sym, ◌∙◌}
-use Rattle.safl_word.specs.Words.{Word}
-use Rattle.safl_net.specs.Netlist.{Netlist}
-use Rattle.safl_net.specs.Whole.{IsWhole}
+use Rattle.safl_tool.proofs.Common.{IsOutcome, IsWhole, List, Netlist, Word, ap, map, resets, string_bytes, subst, sym, ◌∙◌}
 use Rattle.safl_net.specs.Arguments.{argument_widths, AreArguments}
-use Rattle.safl_run.specs.Calls.{IsOutcome}
-use Rattle.safl_sim.specs.Places.{resets}
 use Rattle.safl_tool.proofs.Simulated.{read_widths}
 use Rattle.safl_tool.proofs.simulate.run_net.Goals as goal
 

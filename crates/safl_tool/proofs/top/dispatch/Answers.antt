@@ -1,13 +1,10 @@
+use Rattle.safl_tool.proofs.Common.{Attended, ProbeState, SinkState, starved}
 use Rattle.std.proofs.Common.{List, map, string_bytes, refl, subst, inl, Option}
 use Rattle.std.specs.Prelude.{option_map}
-use Rattle.safl_io.specs.Sink.{SinkState}
 use Rattle.safl_command.specs.Commands.{Command, command_of, shown_command}
-use Rattle.safl_task.specs.Endings.{starved}
 use Rattle.safl_task.proofs.Ending.{ended_ends}
 use Rattle.safl_tool.specs.Worlds.{world, EndsBy, SparesFor, Unprobed, task_in}
 use Rattle.safl_tool.specs.declared.refusal.Refusal.TheVariants as refusal
-use Rattle.safl_probe.specs.Probing.{ProbeState}
-use Rattle.safl_tool.specs.Watched.{Attended}
 use Rattle.safl_tool.proofs.Performed.{spares_none}
 use Rattle.safl_tool.proofs.Refusing.{refusal_ends}
 use Rattle.safl_tool.proofs.Watched.{end_attended, refusal_attended}

@@ -1,13 +1,11 @@
+use Rattle.safl_tool.proofs.Common.{ProbeState, shown_command, usage_line}
 use Rattle.std.proofs.Common.{[], List, Option, map, refl, sym, subst}
 use Rattle.std.specs.Prelude.{option_map, Err}
-use Rattle.safl_command.specs.Commands.{shown_command}
 use Rattle.safl_command.specs.declared.command.Command.{Command}
 use Rattle.safl_task.specs.Endings.{refused}
 use Rattle.safl_task.specs.declared.status.Status.TheVariants as status
-use Rattle.safl_tool.specs.Lines.{usage_line}
 use Rattle.safl_tool.specs.Worlds.{world, DoesCommand, SparesFor}
 use Rattle.safl_tool.specs.declared.refusal.Refusal.TheVariants as refusal
-use Rattle.safl_probe.specs.Probing.{ProbeState}
 use Rattle.safl_tool.specs.Watched.{AttendsFor}
 use Rattle.safl_tool.proofs.Performed.{spares_none}
 use Rattle.safl_tool.proofs.top.obey.Goals as goal

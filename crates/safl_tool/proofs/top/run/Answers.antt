@@ -1,7 +1,5 @@
-use Rattle.std.proofs.Common.{Option, map, string_bytes}
-use Rattle.safl_io.specs.Sink.{SinkState}
+use Rattle.safl_tool.proofs.Common.{Option, SinkState, map, string_bytes, world}
 use Rattle.safl_command.specs.Commands.{Command, command_of}
-use Rattle.safl_tool.specs.Worlds.{world}
 use Rattle.safl_tool.proofs.Followed.{follows}
 use Rattle.safl_tool.proofs.Promised.{builds, checks, simulates, converses, converts}
 use Rattle.safl_tool.proofs.top.run.Goals as goal

@@ -1,9 +1,4 @@
-use Rattle.std.proofs.Common.{List, map}
-use Rattle.std.proofs.lemmas.Result.{err_from_is_err_and}
-use Rattle.safl_word.proofs.Options.{on_ok_always}
-use Rattle.safl_io.specs.Shelf.{ShelfState}
-use Rattle.safl_probe.specs.Probing.{ProbeState}
-use Rattle.safl_probe.specs.Asked.{Asked, asked}
+use Rattle.safl_tool.proofs.Common.{Asked, List, ProbeState, ShelfState, asked, err_from_is_err_and, map, on_ok_always}
 use Rattle.safl_task.specs.Endings.{Outside, outside}
 use Rattle.safl_tool.specs.Watched.{IsShown}
 use Rattle.safl_tool.proofs.Traced.{ending, torn_fails, unprinted, outcome_gives}

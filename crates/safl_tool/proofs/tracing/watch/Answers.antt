@@ -1,16 +1,11 @@
+use Rattle.safl_tool.proofs.Common.{Asked, IsOutcome, IsWriting, ProbeState, Word, WriteFailed, asked}
 use Rattle.std.proofs.Common.{List, map, length, refl, sym, ap, subst, ◌∙◌, arith}
 use Rattle.std.specs.Prelude.{IsSome}
 use Rattle.std.proofs.lemmas.List.{length-map}
-use Rattle.safl_word.specs.Words.{Word}
-use Rattle.safl_probe.specs.Probing.{ProbeState}
 use Rattle.safl_net.specs.Arguments.{AreArguments}
-use Rattle.safl_run.specs.Calls.{IsOutcome}
-use Rattle.safl_probe.specs.Asked.{Asked, asked}
 use Rattle.safl_probe.specs.Growth.{Made, OldOrPart}
 use Rattle.safl_probe.specs.Runs.{RunIsShown}
-use Rattle.safl_probe.specs.Stopping.{WriteFailed}
 use Rattle.safl_command.specs.Traces.{Traces, shown_traces}
-use Rattle.safl_tool.specs.Refusals.{IsWriting}
 use Rattle.safl_tool.specs.Tracing.{file_at}
 use Rattle.safl_tool.proofs.Asked.{files_long, handed, there, its_file, wrote}
 use Rattle.safl_tool.proofs.Traced.{asked_are_apart}

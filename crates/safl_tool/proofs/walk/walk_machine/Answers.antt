@@ -1,8 +1,5 @@
-use Rattle.std.proofs.Common.{ℕ, List, map, string_bytes, ap, subst, ◌∙◌}
-use Rattle.std.proofs.lemmas.Result.{err_from_is_err_and}
-use Rattle.safl_word.specs.Words.{Word}
+use Rattle.safl_tool.proofs.Common.{List, WalksFrom, Word, ap, err_from_is_err_and, map, string_bytes, subst, ℕ, ◌∙◌}
 use Rattle.safl_session.specs.Lines.{AreArguments}
-use Rattle.safl_tool.specs.Walking.{WalksFrom}
 use Rattle.safl_tool.proofs.Simulated.{read_widths, arguments_refused, source_refused}
 use Rattle.safl_tool.proofs.walk.walk_machine.Goals as goal
 

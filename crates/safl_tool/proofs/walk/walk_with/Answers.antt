@@ -1,5 +1,4 @@
-use Rattle.std.proofs.Common.{ℕ, subst}
-use Rattle.safl_tool.specs.Walking.{WalksFrom}
+use Rattle.safl_tool.proofs.Common.{WalksFrom, subst, ℕ}
 use Rattle.safl_tool.proofs.Walked.{walks_from}
 use Rattle.safl_tool.proofs.walk.walk_with.Goals as goal
 

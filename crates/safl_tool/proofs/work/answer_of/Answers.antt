@@ -1,30 +1,23 @@
+use Rattle.safl_tool.proofs.Common.{Declines, EvaluatesEach, GivesReplies, IfErr, IfOk, IsAccepted, IsReadyOf, IsReadySession, Ready}
+use Rattle.safl_tool.proofs.Common.{ReadySession, RefusesBy, source_max}
 use Rattle.std.proofs.Common.{◌≡◌, ◌≤◌, ℕ, List, String, Global, [], ◌∷◌, None, length, map, string_bytes, codes, refl, sym, subst, true, ◌∙◌}
-use Rattle.std.specs.Prelude.{IfOk, IfErr}
 use Rattle.safl_command.specs.Commands.{Bench, Gen, shown_command}
 use Rattle.safl_command.specs.Traces.{shown_traces}
 use Rattle.safl_command.specs.declared.command.Command.{Command}
 use Rattle.safl_task.specs.Inputs.{shown_contents, file_within}
 use Rattle.safl_task.specs.Limits.{script_max, verilog_max, aig_max}
-use Rattle.safl_word.specs.Limits.{source_max}
 use Rattle.safl_task.specs.Tasks.{Task, AreContents, only_prints}
 use Rattle.safl_tool.specs.Answers.{Answers, printed, traces_for}
 use Rattle.safl_tool.specs.BitLevel.{GivesBits, GivesCounts, HasBits, IsAig, RefusesAig, RefusesBitsOf}
-use Rattle.safl_tool.specs.Calling.{GivesReplies, EvaluatesEach}
 use Rattle.safl_tool.specs.CommandTasks.{command_task, traces_in, GivesMeasure, RefusesSourceOf}
 use Rattle.safl_tool.specs.CommandTasks.{RefusesGiven, RefusesText, RefusesReshaping, RefusesSession, GivesNumbers, GivesCircuit, GivesOptimised}
 use Rattle.safl_tool.specs.CommandTasks.{GivesTraces, GivesWalk, GivesRun}
-use Rattle.safl_tool.specs.ReadySession.{IsReadySession}
-use Rattle.safl_tool.specs.Readiness.{IsReadyOf}
-use Rattle.safl_tool.specs.Refusals.{Declines, RefusesBy}
 use Rattle.safl_tool.specs.Reporting.{GivesReport, made_args, made_source}
 use Rattle.safl_tool.specs.Reshaping.{GivesReshaped, IsReshapable, copies, unfolds}
 use Rattle.safl_tool.specs.Running.{Finishes}
 use Rattle.safl_tool.specs.Simulating.{Evaluates, InCycles, InEvents}
-use Rattle.safl_tool.specs.Sources.{IsAccepted}
 use Rattle.safl_tool.specs.Tracing.{files_for, no_traces}
 use Rattle.safl_tool.specs.declared.answer.Answer.TheVariants as answer
-use Rattle.safl_tool.specs.declared.ready.Ready.{Ready}
-use Rattle.safl_tool.specs.declared.session.ReadySession.{ReadySession}
 use Rattle.safl_tool.specs.Watched.{ShowsFor}
 use Rattle.safl_tool.proofs.Watched.{HasNoRun, shows_none, shows_run}
 use Rattle.safl_tool.proofs.Answered.{one_within, two_within, prints, writes, answers_with, declines, both_answers, both_declines, traces_on, given_on, refused_on}

@@ -1,17 +1,10 @@
+use Rattle.safl_tool.proofs.Common.{AreAskedFor, ProbeState, ShelfState, asked, command_task, outside, shown_command, starved, world}
 use Rattle.std.proofs.Common.{◌≡◌, List, None, map, refl, sym, ap, subst, ◌∙◌, inl}
 use Rattle.std.proofs.lemmas.Result.{err_from_is_err_and}
-use Rattle.safl_io.specs.Shelf.{ShelfState}
-use Rattle.safl_probe.specs.Probing.{ProbeState}
-use Rattle.safl_probe.specs.Asked.{asked}
-use Rattle.safl_command.specs.Commands.{shown_command}
 use Rattle.safl_command.specs.Traces.{Traces}
-use Rattle.safl_task.specs.Endings.{outside, starved}
 use Rattle.safl_task.specs.Inputs.{AreUnread, shown_inputs, shown_contents}
 use Rattle.safl_task.specs.Tasks.{Input, Task, AreContents}
-use Rattle.safl_tool.specs.CommandTasks.{command_task}
 use Rattle.safl_tool.specs.Refusals.{TellsProbe}
-use Rattle.safl_tool.specs.Tracing.{AreAskedFor}
-use Rattle.safl_tool.specs.Worlds.{world}
 use Rattle.safl_tool.proofs.Answered.{contents_alone}
 use Rattle.safl_tool.proofs.Performed.{gives_does, spares_none, spares_read, spares_given}
 use Rattle.safl_tool.proofs.Quiet.{quiet}

@@ -1,13 +1,8 @@
+use Rattle.safl_tool.proofs.Common.{Asked, asked, probe_at, shown_command, starved, traces_given, traces_in, world}
 use Rattle.std.proofs.Common.{◌≡◌, List, map, refl, sym, ap, subst, ◌∙◌, inl}
 use Rattle.safl_probe.specs.Probing.{ProbeState, IsWaiting}
-use Rattle.safl_probe.specs.Asked.{Asked, asked, probe_at}
-use Rattle.safl_command.specs.Commands.{shown_command}
 use Rattle.safl_command.specs.Traces.{Traces}
-use Rattle.safl_task.specs.Endings.{starved}
-use Rattle.safl_tool.specs.Asking.{traces_given}
-use Rattle.safl_tool.specs.CommandTasks.{traces_in}
 use Rattle.safl_tool.specs.Tracing.{AreAskedFor, have_probes, kinds_of}
-use Rattle.safl_tool.specs.Worlds.{world}
 use Rattle.safl_tool.proofs.Performed.{spares_none, not_asked, does_asked, spares_asked}
 use Rattle.safl_tool.proofs.Watched.{attends_asked}
 use Rattle.safl_tool.proofs.work.perform.Goals as goal

@@ -1,6 +1,5 @@
-use Rattle.std.proofs.Common.{◌+◌, ◌*◌, ◌≤◌, drop, ◌↔◌}
+use Rattle.safl_tree.proofs.Common.{drop, shown_bounds, shown_labelled, shown_tree, shown_trees, ◌*◌, ◌+◌, ◌↔◌, ◌≤◌}
 use Rattle.safl_tree.specs.Tree.{trees_of, binds_of, arms_of, deepest, deepest_bind, deepest_arm}
-use Rattle.safl_tree.specs.Shown.{shown_tree, shown_trees, shown_bounds, shown_labelled}
 use Rattle.safl_tree.proofs.depth.+within.Given as goal
 
 -- what is left is within the levels exactly where all is

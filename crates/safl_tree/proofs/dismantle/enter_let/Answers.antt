@@ -1,8 +1,4 @@
-use Rattle.std.proofs.Common.{refl, ap, arith}
-use Rattle.safl_word.proofs.Naturals.{work_down}
-use Rattle.safl_tree.specs.declared.tree.Expr.{Expr}
-use Rattle.safl_tree.specs.Shown.{shown_tree}
-use Rattle.safl_tree.specs.Sizes.{size}
+use Rattle.safl_tree.proofs.Common.{Expr, ap, arith, refl, shown_tree, size, work_down}
 use Rattle.safl_tree.proofs.Dismantling.{let_size}
 use Rattle.safl_tree.proofs.dismantle.enter_let.Goals as goal
 

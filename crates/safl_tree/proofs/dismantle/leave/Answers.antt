@@ -1,9 +1,6 @@
+use Rattle.safl_tree.proofs.Common.{Expr, Node, arm_size, size, sum_by}
 use Rattle.std.proofs.Common.{refl, ap, sym, ◌∙◌, arith}
-use Rattle.std.specs.List.{sum_by}
-use Rattle.safl_tree.specs.declared.tree.Expr.{Expr}
-use Rattle.safl_tree.specs.declared.tree.Node.{Node}
 use Rattle.safl_tree.specs.Shown.{shown_tree, shown_node}
-use Rattle.safl_tree.specs.Sizes.{size, arm_size}
 use Rattle.safl_tree.proofs.Dismantling.{let_size, case_size, op_size, call_size, at_most_of}
 use Rattle.safl_tree.proofs.dismantle.leave.Goals as goal
 

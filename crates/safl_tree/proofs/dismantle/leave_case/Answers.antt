@@ -1,8 +1,4 @@
-use Rattle.std.proofs.Common.{refl, ap, arith}
-use Rattle.safl_word.proofs.Lists.{sum_last}
-use Rattle.safl_tree.specs.declared.tree.Expr.{Expr}
-use Rattle.safl_tree.specs.Shown.{shown_tree}
-use Rattle.safl_tree.specs.Sizes.{size, arm_size}
+use Rattle.safl_tree.proofs.Common.{Expr, ap, arith, arm_size, refl, shown_tree, size, sum_last}
 use Rattle.safl_tree.proofs.Dismantling.{case_size}
 use Rattle.safl_tree.proofs.dismantle.leave_case.Goals as goal
 

@@ -1,5 +1,4 @@
-use Rattle.std.proofs.Common.{arith}
-use Rattle.safl_tree.specs.Shown.{shown_tree}
+use Rattle.safl_tree.proofs.Common.{arith, shown_tree}
 use Rattle.safl_tree.proofs.Descent.{depth_some, call_keeps}
 use Rattle.safl_tree.proofs.levels.+keeps.Goals as goal
 

@@ -1,5 +1,4 @@
-use Rattle.std.proofs.Common.{◌+◌, ◌*◌, ◌≤◌, drop, ◌↔◌}
-use Rattle.safl_tree.specs.Tree.{trees_of, binds_of, arms_of}
+use Rattle.safl_tree.proofs.Common.{arms_of, binds_of, drop, trees_of, ◌*◌, ◌+◌, ◌↔◌, ◌≤◌}
 use Rattle.safl_tree.specs.Shown.{shown_tree, shown_trees, shown_bounds, shown_labelled}
 use Rattle.safl_tree.specs.Keeps.{PartsKeep, BindingsKeep, ArmsKeep}
 use Rattle.safl_tree.proofs.levels.+keeps.Given as goal

@@ -1,8 +1,5 @@
+use Rattle.safl_tree.proofs.Common.{AllKeepLevels, Def, drop_read, shown_definitions, shown_tree}
 use Rattle.std.proofs.Common.{IsTrue, List, length, get_or, subst, ap, ◌∙◌, arith}
-use Rattle.safl_word.proofs.Lists.{drop_read}
-use Rattle.safl_tree.specs.declared.tree.Def.{Def}
-use Rattle.safl_tree.specs.Shown.{shown_tree, shown_definitions}
-use Rattle.safl_tree.specs.Printable.{AllKeepLevels}
 use Rattle.safl_tree.proofs.Depths.{keeps_levels}
 use Rattle.safl_tree.proofs.levels.levels_ok.Goals as goal
 

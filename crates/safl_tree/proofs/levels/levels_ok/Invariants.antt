@@ -1,6 +1,4 @@
-use Rattle.std.proofs.Common.{drop, ◌↔◌}
-use Rattle.safl_tree.specs.Shown.{shown_definitions}
-use Rattle.safl_tree.specs.Printable.{AllKeepLevels}
+use Rattle.safl_tree.proofs.Common.{AllKeepLevels, drop, shown_definitions, ◌↔◌}
 use Rattle.safl_tree.proofs.levels.levels_ok.Given as goal
 
 -- what is left keeps the levels exactly where all does

@@ -1,14 +1,9 @@
+use Rattle.safl_tree.proofs.Common.{Arm, Bind, Expr, Primitive, binds_of, drop_read, trees_of}
 use Rattle.std.proofs.Common.{◌≡◌, ℕ, ◌+◌, ◌-◌, List, [], ◌∷◌, ◌++◌, length, take, drop, OnOk, Bool, false, leb, refl, sym, ap, subst, ◌∙◌, arith}
 use Rattle.safl_word.specs.declared.token.Key.TheVariants as keys
 use Rattle.safl_word.specs.declared.token.Sym.TheVariants as syms
-use Rattle.safl_tree.specs.declared.tree.Expr.{Expr}
-use Rattle.safl_tree.specs.declared.tree.Bind.{Bind}
-use Rattle.safl_tree.specs.declared.tree.Arm.{Arm}
-use Rattle.safl_tree.specs.Tree.{trees_of, binds_of}
 use Rattle.safl_tree.specs.Shown.{shown_tree, shown_trees, shown_bounds, shown_labelled}
 use Rattle.std.proofs.lemmas.Bool.{lt-leb}
-use Rattle.safl_word.specs.declared.primitive.Primitive.{Primitive}
-use Rattle.safl_word.proofs.Lists.{drop_read}
 use Rattle.safl_tree.specs.Printable.{layers_of, left_context, right_context}
 use Rattle.safl_tree.specs.Printed
 use Rattle.safl_tree.specs.Printed.{PrintedToken, separated, enclosed, part_words, bind_words, bound_words, labelled_words, words, Writes}

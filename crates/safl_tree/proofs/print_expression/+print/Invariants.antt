@@ -1,7 +1,5 @@
-use Rattle.std.proofs.Common.{drop}
+use Rattle.safl_tree.proofs.Common.{binds_of, drop, shown_bounds, shown_labelled, shown_trees, trees_of}
 use Rattle.safl_word.specs.declared.token.Sym.TheVariants as syms
-use Rattle.safl_tree.specs.Tree.{trees_of, binds_of}
-use Rattle.safl_tree.specs.Shown.{shown_trees, shown_bounds, shown_labelled}
 use Rattle.safl_tree.specs.Printed.{sym, part_words, bind_words, labelled_words}
 use Rattle.safl_tree.proofs.Writing.{behind, Leaves}
 use Rattle.safl_tree.proofs.print_expression.+print.Given as goal

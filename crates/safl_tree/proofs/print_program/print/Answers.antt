@@ -1,8 +1,7 @@
+use Rattle.safl_tree.proofs.Common.{Def, printed}
 use Rattle.std.proofs.Common.{◌≡◌, ◌++◌, ℕ, List, length, sym, ap, subst, ◌∙◌, arith}
 use Rattle.std.proofs.lemmas.List.{append-nil, drop_all}
-use Rattle.safl_tree.specs.declared.tree.Def.{Def}
 use Rattle.safl_tree.specs.Shown.{shown_definitions, shown_program}
-use Rattle.safl_tree.specs.Printed.{printed}
 use Rattle.safl_tree.specs.Laws.{SpelledBy}
 use Rattle.safl_tree.proofs.PrintedPrograms.{printed_spells}
 use Rattle.safl_tree.proofs.print_program.print.Goals as goal

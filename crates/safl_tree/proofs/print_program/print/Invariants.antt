@@ -1,6 +1,5 @@
+use Rattle.safl_tree.proofs.Common.{printed, shown_definitions}
 use Rattle.std.proofs.Common.{◌≡◌, ◌++◌, drop}
-use Rattle.safl_tree.specs.Shown.{shown_definitions}
-use Rattle.safl_tree.specs.Printed.{printed}
 use Rattle.safl_tree.proofs.print_program.print.Given as goal
 
 -- with what is left the text is that of all

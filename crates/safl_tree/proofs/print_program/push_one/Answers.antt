@@ -1,9 +1,7 @@
+use Rattle.safl_tree.proofs.Common.{Param, Writes, param_words, separated, shown_parameters, shown_tree}
 use Rattle.std.proofs.Common.{ℕ, List, [], ◌∷◌, subst}
 use Rattle.safl_word.specs.declared.token.Sym.TheVariants as syms
-use Rattle.safl_tree.specs.declared.tree.Param.{Param}
-use Rattle.safl_tree.specs.Shown.{shown_tree, shown_parameters}
 use Rattle.safl_tree.specs.Printed
-use Rattle.safl_tree.specs.Printed.{separated, param_words, Writes}
 use Rattle.safl_tree.proofs.Writing.{chain_8}
 use Rattle.safl_tree.proofs.print_program.push_one.Goals as goal
 

@@ -1,6 +1,5 @@
-use Rattle.std.proofs.Common.{drop}
+use Rattle.safl_tree.proofs.Common.{drop, shown_parameters}
 use Rattle.safl_word.specs.declared.token.Sym.TheVariants as syms
-use Rattle.safl_tree.specs.Shown.{shown_parameters}
 use Rattle.safl_tree.specs.Printed.{sym, param_words}
 use Rattle.safl_tree.proofs.Writing.{behind, Leaves}
 use Rattle.safl_tree.proofs.print_program.push_params.Given as goal

@@ -1,23 +1,17 @@
+use Rattle.safl_typing.proofs.Common.{AllByRecursion, AreMarked, BoundMarked, Fault, HasSlots, IsMarked, result_width, shown_bindings}
+use Rattle.safl_typing.proofs.Common.{shown_expression, shown_expressions, shown_scope, shown_term, shown_terms, slots, widths_of}
 use Rattle.std.proofs.Common.{rules, ◌≡◌, ℕ, ◌+◌, ◌*◌, ◌<◌, ◌^◌, ◌++◌, List, ◌∷◌, length, Bool, false, Option, refl, sym, ap, subst, ◌∙◌, arith}
 use Rattle.std.specs.Prelude.{Result, Err, Ok, Some, None, map, ◌&&◌, ◌==◌}
 use Rattle.std.proofs.lemmas.Result.{err_from_is_err_and, IfOk-weaker}
-use Rattle.std.specs.List.{AllByRecursion}
-use Rattle.safl_term.specs.Slots.{HasSlots}
 use Rattle.safl_typing.proofs.LetSlots.{body_sees}
 use Rattle.safl_word.specs.declared.fault.Rule.TheVariants as faults
-use Rattle.safl_word.specs.declared.fault.Fault.{Fault}
-use Rattle.safl_word.specs.Primitives.{result_width}
-use Rattle.safl_term.specs.Tree.{shown_term, shown_terms}
 use Rattle.safl_typing.specs.declared.heads.Slot as code_slot
 use Rattle.safl_typing.specs.declared.typed.Wanted.TheVariants as wants
 use Rattle.safl_typing.specs.Rewriting.{Expression, Expressions, count, nodes, nodes_in, nodes_bound}
 use Rattle.safl_typing.specs.Heads.{Slot, is_site, sites, sites_in, sites_bound}
-use Rattle.safl_typing.specs.Typing.{slots, widths_of}
 use Rattle.safl_typing.specs.Ranges.{WideSlots, IsInRange}
 use Rattle.safl_typing.specs.Walk.{fault_with, unless, needs, Typed, TypedAll, TypedAlike, Wanted, is_any, is_known, resized, exactly, check, check_all, check_alike, check_shift}
-use Rattle.safl_typing.specs.Plain.{shown_expression, shown_expressions, shown_bindings}
 use Rattle.safl_typing.specs.PlainHeads.{shown_slots, shown_head, shown_callee, IsOneOf, known}
-use Rattle.safl_typing.specs.PlainScope.{shown_scope}
 use Rattle.safl_typing.specs.PlainNames.{twice_at}
 use Rattle.safl_typing.specs.PlainTyped.{shown_wanted, shown_typed, shown_all_typed, shown_alike, shown_shape, HasWidthOfWord, HasWideWanted}
 use Rattle.safl_typing.specs.PlainTyped.{Says, SaysAll, SaysAlike, RefusesFault}
@@ -26,7 +20,6 @@ use Rattle.safl_typing.specs.Checking.{MayCheckIn}
 use Rattle.safl_typing.proofs.SlotsBelowLets.{fails, goes}
 use Rattle.safl_typing.proofs.WalkByForms as walk
 use Rattle.safl_typing.proofs.FunctionsByName.{got}
-use Rattle.safl_typing.specs.Marks.{IsMarked, AreMarked, BoundMarked}
 use Rattle.safl_typing.proofs.MarksOfParts as marks
 use Rattle.safl_typing.proofs.checking.+walk.Goals as goal
 

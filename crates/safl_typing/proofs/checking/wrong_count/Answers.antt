@@ -1,5 +1,4 @@
-use Rattle.std.proofs.Common.{ap, ◌∙◌}
-use Rattle.safl_word.specs.declared.fault.Fault.{Fault}
+use Rattle.safl_typing.proofs.Common.{Fault, ap, ◌∙◌}
 use Rattle.safl_typing.specs.declared.typed.CheckErr.TheVariants as errors
 use Rattle.safl_typing.proofs.WalkByForms.{wrong_is}
 use Rattle.safl_typing.proofs.checking.wrong_count.Goals as goal

@@ -1,9 +1,6 @@
-use Rattle.std.proofs.Common.{◌∙◌, List, sym, ap, subst}
-use Rattle.safl_typing.specs.declared.expression.Bound.{Bound}
+use Rattle.safl_typing.proofs.Common.{Bound, BoundMarked, IsMarkOf, IsMarked, List, ap, shown_bindings, shown_expression, subst, sym, ◌∙◌}
 use Rattle.safl_typing.specs.declared.expression.Expression as code
 use Rattle.safl_typing.specs.Rewriting.{Let}
-use Rattle.safl_typing.specs.Plain.{shown_expression, shown_bindings}
-use Rattle.safl_typing.specs.Marks.{IsMarkOf, IsMarked, BoundMarked}
 use Rattle.safl_typing.proofs.PlainLists.{shown_expression-Let}
 use Rattle.safl_typing.proofs.MarksOfParts.{binding_marked}
 use Rattle.safl_typing.proofs.make.bind.Goals as goal

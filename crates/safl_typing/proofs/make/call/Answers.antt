@@ -1,11 +1,8 @@
-use Rattle.std.proofs.Common.{List, subst}
+use Rattle.safl_typing.proofs.Common.{AreMarked, IsMarkOf, List, shown_expressions, subst, sym}
 use Rattle.safl_typing.specs.declared.expression.Expression as code
 use Rattle.safl_typing.specs.Rewriting.{Call}
-use Rattle.safl_typing.specs.Plain.{shown_expressions}
-use Rattle.safl_typing.specs.Marks.{IsMarkOf, AreMarked}
 use Rattle.safl_typing.proofs.PlainLists.{shown_expression-Call}
 use Rattle.safl_typing.proofs.MarksOfParts.{called_marked}
-use Rattle.std.proofs.Common.{sym}
 use Rattle.safl_typing.proofs.make.call.Goals as goal
 
 pub returns-clause-made : goal.returns-clause-made

@@ -1,8 +1,6 @@
-use Rattle.std.proofs.Common.{sym, subst}
+use Rattle.safl_typing.proofs.Common.{IsMarkOf, IsMarked, shown_expression, subst, sym}
 use Rattle.safl_typing.specs.declared.expression.Expression as code
 use Rattle.safl_typing.specs.Rewriting.{If}
-use Rattle.safl_typing.specs.Plain.{shown_expression}
-use Rattle.safl_typing.specs.Marks.{IsMarkOf, IsMarked}
 use Rattle.safl_typing.proofs.make.choice.Goals as goal
 
 pub returns-clause-marked : goal.returns-clause-marked

@@ -1,8 +1,6 @@
-use Rattle.std.proofs.Common.{List, sym, subst}
+use Rattle.safl_typing.proofs.Common.{AreMarked, IsMarkOf, List, shown_expressions, subst, sym}
 use Rattle.safl_typing.specs.declared.expression.Expression as code
 use Rattle.safl_typing.specs.Rewriting.{Op}
-use Rattle.safl_typing.specs.Plain.{shown_expressions}
-use Rattle.safl_typing.specs.Marks.{IsMarkOf, AreMarked}
 use Rattle.safl_typing.proofs.PlainLists.{shown_expression-Op}
 use Rattle.safl_typing.proofs.MarksOfParts.{applied_marked}
 use Rattle.safl_typing.proofs.make.operate.Goals as goal

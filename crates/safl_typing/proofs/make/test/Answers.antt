@@ -1,10 +1,8 @@
-use Rattle.std.proofs.Common.{◌∙◌, List, sym, ap, subst}
+use Rattle.safl_typing.proofs.Common.{AreMarked, List, ap, shown_expression, shown_expressions, subst, sym, ◌∙◌}
 use Rattle.std.specs.Prelude.{ℕ}
 use Rattle.safl_word.specs.declared.primitive.Primitive.TheVariants as prims
 use Rattle.safl_typing.specs.declared.expression.Expression as code
 use Rattle.safl_typing.specs.Rewriting.{Op, Variable, an_expression, no_expression}
-use Rattle.safl_typing.specs.Plain.{shown_expression, shown_expressions}
-use Rattle.safl_typing.specs.Marks.{AreMarked}
 use Rattle.safl_typing.proofs.make.test.Goals as goal
 
 pub returns-clause-made : goal.returns-clause-made

@@ -1,7 +1,5 @@
+use Rattle.safl_typing.proofs.Common.{AreMarked, Known, shown_expressions, sites_in}
 use Rattle.std.proofs.Common.{◌≡◌, ◌+◌, take, min}
-use Rattle.safl_typing.specs.Heads.{Known, sites_in}
-use Rattle.safl_typing.specs.Plain.{shown_expressions}
-use Rattle.safl_typing.specs.Marks.{AreMarked}
 use Rattle.safl_typing.proofs.marks.add_all_sites.Given as goal
 
 abbrev pub invariant-loop-e : goal.invariant-loop-e

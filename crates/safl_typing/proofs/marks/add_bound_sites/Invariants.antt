@@ -1,7 +1,5 @@
+use Rattle.safl_typing.proofs.Common.{BoundMarked, Known, shown_bindings, sites_bound}
 use Rattle.std.proofs.Common.{◌≡◌, ◌+◌, take, min}
-use Rattle.safl_typing.specs.Heads.{Known, sites_bound}
-use Rattle.safl_typing.specs.Plain.{shown_bindings}
-use Rattle.safl_typing.specs.Marks.{BoundMarked}
 use Rattle.safl_typing.proofs.marks.add_bound_sites.Given as goal
 
 abbrev pub invariant-loop-b : goal.invariant-loop-b

@@ -1,8 +1,6 @@
-use Rattle.std.proofs.Common.{◌∙◌, List, sym, ap}
+use Rattle.safl_typing.proofs.Common.{List, all_flexible, ap, shown_expressions, sym, ◌∙◌}
 use Rattle.std.proofs.lemmas.List.{drop_all}
 use Rattle.safl_typing.specs.declared.expression.Expression as code
-use Rattle.safl_typing.specs.Rewriting.{all_flexible}
-use Rattle.safl_typing.specs.Plain.{shown_expressions}
 use Rattle.safl_typing.proofs.ListsByOne.{flexible_next, flexible_not}
 use Rattle.safl_typing.proofs.MarksOfParts.{marked_at}
 use Rattle.safl_typing.proofs.marks.are_flexible.Goals as goal

@@ -1,8 +1,5 @@
+use Rattle.safl_typing.proofs.Common.{AreMarked, Known, all_flexible, shown_expressions}
 use Rattle.std.proofs.Common.{◌≡◌, drop}
-use Rattle.safl_typing.specs.Rewriting.{all_flexible}
-use Rattle.safl_typing.specs.Heads.{Known}
-use Rattle.safl_typing.specs.Plain.{shown_expressions}
-use Rattle.safl_typing.specs.Marks.{AreMarked}
 use Rattle.safl_typing.proofs.marks.are_flexible.Given as goal
 
 -- the rest decides

@@ -1,7 +1,5 @@
-use Rattle.std.proofs.Common.{◌≡◌, ◌+◌, arith}
+use Rattle.safl_typing.proofs.Common.{arith, shown_bindings, shown_expression, sites, sites_bound, ◌+◌, ◌≡◌}
 use Rattle.std.specs.Prelude.{min}
-use Rattle.safl_typing.specs.Heads.{sites, sites_bound}
-use Rattle.safl_typing.specs.Plain.{shown_bindings, shown_expression}
 use Rattle.safl_typing.proofs.marks.marks_of_binding.Goals as goal
 
 pub returns : goal.returns

@@ -1,7 +1,5 @@
-use Rattle.std.proofs.Common.{◌+◌, ◌∙◌, ap, refl}
+use Rattle.safl_typing.proofs.Common.{ap, refl, shown_expressions, sites_in, ◌+◌, ◌∙◌}
 use Rattle.std.specs.Prelude.{ℕ, min}
-use Rattle.safl_typing.specs.Heads.{sites_in}
-use Rattle.safl_typing.specs.Plain.{shown_expressions}
 use Rattle.safl_typing.proofs.marks.marks_of_call.Goals as goal
 
 pub returns : goal.returns

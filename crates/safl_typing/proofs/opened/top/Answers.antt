@@ -1,7 +1,5 @@
-use Rattle.std.proofs.Common.{ap, subst, ◌∙◌}
+use Rattle.safl_typing.proofs.Common.{IsMarked, ap, shown_expression, subst, ◌∙◌}
 use Rattle.safl_typing.specs.declared.expression.Expression.TheVariants as codes
-use Rattle.safl_typing.specs.Plain.{shown_expression}
-use Rattle.safl_typing.specs.Marks.{IsMarked}
 use Rattle.safl_typing.proofs.PlainLists.{shown_expression-Op, shown_expression-Call, shown_expression-Let}
 use Rattle.safl_typing.proofs.MarksOfParts.{applied_parts, called_parts, binding_parts}
 use Rattle.safl_typing.proofs.opened.top.Goals as goal

@@ -1,8 +1,5 @@
+use Rattle.safl_typing.proofs.Common.{Bound, bytes_eq, earlier, list_any}
 use Rattle.std.proofs.Common.{◌≡◌, ◌∙◌, ap, sym, false}
-use Rattle.std.specs.List.{list_any}
-use Rattle.std.specs.Str.{bytes_eq}
-use Rattle.safl_typing.specs.declared.expression.Bound.{Bound}
-use Rattle.safl_typing.specs.PlainNames.{earlier}
 use Rattle.safl_typing.proofs.BindingsByOne.{repeated_next}
 use Rattle.safl_typing.proofs.repeats.find_repeated.Goals as goal
 

@@ -1,8 +1,5 @@
+use Rattle.safl_typing.proofs.Common.{earlier, placed, repeated, shown_bindings}
 use Rattle.std.proofs.Common.{◌≡◌, [], drop}
-use Rattle.safl_typing.specs.Walk.{repeated}
-use Rattle.safl_typing.specs.Rewriting.{placed}
-use Rattle.safl_typing.specs.Plain.{shown_bindings}
-use Rattle.safl_typing.specs.PlainNames.{earlier}
 use Rattle.safl_typing.proofs.repeats.find_repeated.Given as goal
 
 -- the rest decides

@@ -1,7 +1,4 @@
-use Rattle.std.proofs.Common.{◌≡◌}
-use Rattle.std.specs.List.{list_any}
-use Rattle.std.specs.Str.{bytes_eq}
-use Rattle.safl_typing.specs.PlainNames.{earlier}
+use Rattle.safl_typing.proofs.Common.{bytes_eq, earlier, list_any, ◌≡◌}
 use Rattle.safl_typing.proofs.repeats.is_among.Given as goal
 
 abbrev pub invariant-loop-j : goal.invariant-loop-j

@@ -1,6 +1,5 @@
-use Rattle.std.proofs.Common.{ap, ◌∙◌, List, refl, sym}
+use Rattle.safl_typing.proofs.Common.{List, ap, known, refl, sym, ◌∙◌}
 use Rattle.safl_tree.specs.Shown.{shown_tree}
-use Rattle.safl_typing.specs.PlainHeads.{known}
 use Rattle.safl_typing.specs.Heads.{callee, is_site}
 use Rattle.safl_typing.proofs.PlainLists.{ok_plain}
 use Rattle.safl_typing.proofs.HeadsByName.{site_plain}

@@ -1,10 +1,8 @@
+use Rattle.safl_typing.proofs.Common.{AreMarked, BoundMarked, IsMarked, known, shown_bindings, shown_expression, shown_expressions}
 use Rattle.std.proofs.Common.{◌≡◌, ◌-◌, length, take, drop}
 use Rattle.safl_tree.specs.Tree.{Tree, trees_of, binds_of, arms_of}
 use Rattle.safl_tree.specs.Shown.{shown_trees, shown_bounds, shown_labelled}
 use Rattle.safl_typing.specs.Rewriting.{rewritten, rewritten_all, rewritten_binds, rewritten_arms}
-use Rattle.safl_typing.specs.Plain.{shown_expression, shown_expressions, shown_bindings}
-use Rattle.safl_typing.specs.PlainHeads.{known}
-use Rattle.safl_typing.specs.Marks.{IsMarked, AreMarked, BoundMarked}
 use Rattle.safl_typing.proofs.rewrite.+rewriting.Given as goal
 
 abbrev pub invariant-rewrite_all-loop-e : goal.invariant-rewrite_all-loop-e

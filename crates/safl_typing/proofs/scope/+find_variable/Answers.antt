@@ -1,8 +1,7 @@
+use Rattle.safl_typing.proofs.Common.{shifted, shown_scope, shown_slots}
 use Rattle.std.proofs.Common.{◌∙◌, Option, length, ap, sym, refl}
 use Rattle.safl_typing.specs.declared.scope.Scope.{Scope}
 use Rattle.safl_typing.specs.Typing.{At, innermost}
-use Rattle.safl_typing.specs.PlainHeads.{shown_slots}
-use Rattle.safl_typing.specs.PlainScope.{shown_scope, shifted}
 use Rattle.safl_typing.proofs.InnermostName.{in_let}
 use Rattle.safl_typing.proofs.scope.+find_variable.Goals as goal
 

@@ -1,5 +1,4 @@
-use Rattle.std.proofs.Common.{subst, sym}
-use Rattle.safl_term.specs.Slots.{HasSlots}
+use Rattle.safl_typing.proofs.Common.{HasSlots, subst, sym}
 use Rattle.safl_term.proofs.SlotsOfLets.{slots-If}
 use Rattle.safl_typing.proofs.terms.make_if.Goals as goal
 

@@ -1,9 +1,8 @@
+use Rattle.safl_typing.proofs.Common.{HasSlots, shown_term, shown_terms}
 use Rattle.std.proofs.Common.{◌+◌, length, ◌∙◌, ap, sym, subst}
-use Rattle.safl_term.specs.Slots.{HasSlots}
 use Rattle.safl_term.proofs.SlotsOfLets.{slots-Let}
 use Rattle.safl_term.specs.declared.term.Term as declared
 use Rattle.safl_term.specs.Terms.{Let}
-use Rattle.safl_term.specs.Tree.{shown_term, shown_terms}
 use Rattle.safl_term.proofs.PlainTrees.{shown_term-Let}
 use Rattle.safl_typing.proofs.SlotsBelowLets.{same_term}
 use Rattle.safl_typing.proofs.terms.make_let.Goals as goal

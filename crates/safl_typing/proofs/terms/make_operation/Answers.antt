@@ -1,5 +1,4 @@
-use Rattle.safl_term.proofs.SlotsOfLets.{slots-Op}
-use Rattle.safl_term.proofs.PlainTrees.{shown_term-Op}
+use Rattle.safl_typing.proofs.Common.{shown_term-Op, slots-Op}
 use Rattle.safl_typing.proofs.terms.make_operation.Goals as goal
 
 pub returns-clause-term : goal.returns-clause-term

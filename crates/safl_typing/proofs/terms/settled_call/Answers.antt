@@ -1,10 +1,8 @@
-use Rattle.std.proofs.Common.{subst}
-use Rattle.std.proofs.lemmas.Result.{IfOk-weaker}
+use Rattle.safl_typing.proofs.Common.{IfOk-weaker, Says, shown_wanted, subst}
 use Rattle.safl_term.proofs.SlotsOfLets.{slots-Call}
 use Rattle.safl_term.specs.Terms.{Term}
 use Rattle.safl_term.proofs.PlainTrees.{shown_term-Call}
 use Rattle.safl_typing.specs.Walk.{settle}
-use Rattle.safl_typing.specs.PlainTyped.{shown_wanted, Says}
 use Rattle.safl_typing.proofs.terms.settled_call.Goals as goal
 
 pub returns-clause-says : goal.returns-clause-says

@@ -1,10 +1,6 @@
-use Rattle.std.proofs.Common.{subst}
-use Rattle.std.proofs.lemmas.Result.{IfOk-weaker}
-use Rattle.safl_term.proofs.SlotsOfLets.{slots-Op}
+use Rattle.safl_typing.proofs.Common.{IfOk-weaker, Says, shown_term-Op, shown_wanted, slots-Op, subst}
 use Rattle.safl_term.specs.Terms.{Term}
-use Rattle.safl_term.proofs.PlainTrees.{shown_term-Op}
 use Rattle.safl_typing.specs.Walk.{settle}
-use Rattle.safl_typing.specs.PlainTyped.{shown_wanted, Says}
 use Rattle.safl_typing.proofs.terms.settled_operation.Goals as goal
 
 pub returns-clause-says : goal.returns-clause-says

@@ -1,5 +1,4 @@
-use Rattle.std.proofs.lemmas.Bool.{false≢true}
-use Rattle.safl_term.proofs.SlotsOfLets.{slots-Const}
+use Rattle.safl_typing.proofs.Common.{false≢true, slots-Const}
 use Rattle.safl_typing.proofs.SlotsTyped.{number_refused}
 use Rattle.safl_typing.proofs.typed.typed_number.Goals as goal
 
@@ -8,6 +7,7 @@ returns-in-None c = record {
   says = number_refused c.args.place c.args.value c.in-Exactly.width c.args.wanted c.refused-in-None.result c.requires
       c.in-Exactly.is (λ h. false≢true (c.in-None.ensures.some.1 h)) c.refused-in-None.ensures;
   slots = tt;
+  memory = λ h. let g = c.refused-in-None.ensures in absurd (cc);
 }
 
 pub returns-in-Some-clause-slots : goal.returns-in-Some-clause-slots

@@ -1,6 +1,4 @@
-use Rattle.std.proofs.lemmas.Result.{IfOk-weaker}
-use Rattle.std.proofs.lemmas.Bool.{false≢true}
-use Rattle.safl_term.proofs.SlotsOfLets.{slots-Const}
+use Rattle.safl_typing.proofs.Common.{IfOk-weaker, false≢true, slots-Const}
 use Rattle.safl_typing.proofs.SlotsTyped.{sized_refused}
 use Rattle.safl_typing.proofs.typed.typed_sized.Goals as goal
 
@@ -9,6 +7,7 @@ returns-in-None c = record {
   says = sized_refused c.args.place c.args.width c.args.value c.args.wanted c.refused.result c.requires
       (λ h. false≢true (c.in-None.ensures.some.1 h)) c.refused.ensures;
   slots = tt;
+  memory = λ h. let g = c.refused.ensures in absurd (cc);
 }
 
 pub returns-in-Some-clause-slots : goal.returns-in-Some-clause-slots

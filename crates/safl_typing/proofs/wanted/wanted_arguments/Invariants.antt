@@ -1,9 +1,6 @@
-use Rattle.std.proofs.Common.{◌≡◌, take}
+use Rattle.safl_typing.proofs.Common.{shown_slots, shown_wanted, take, widths_of, ◌≡◌}
 use Rattle.std.specs.Prelude.{map}
-use Rattle.safl_typing.specs.Typing.{widths_of}
 use Rattle.safl_typing.specs.Walk.{exactly}
-use Rattle.safl_typing.specs.PlainHeads.{shown_slots}
-use Rattle.safl_typing.specs.PlainTyped.{shown_wanted}
 use Rattle.safl_typing.proofs.wanted.wanted_arguments.Given as goal
 
 abbrev pub invariant-loop-param : goal.invariant-loop-param

@@ -1,8 +1,5 @@
-use Rattle.std.proofs.Common.{List, ap, ◌∙◌, arith}
-use Rattle.std.proofs.lemmas.List.{take_all}
+use Rattle.safl_typing.proofs.Common.{List, ap, arith, operands_wanted, shown_expressions, take_all, ◌∙◌}
 use Rattle.safl_typing.specs.declared.expression.Expression as code
-use Rattle.safl_typing.specs.Plain.{shown_expressions}
-use Rattle.safl_typing.specs.PlainTyped.{operands_wanted}
 use Rattle.safl_typing.proofs.WantedByOne.{operands_next}
 use Rattle.safl_typing.proofs.MarksOfParts.{marked_at}
 use Rattle.safl_typing.proofs.wanted.wanted_operands.Goals as goal

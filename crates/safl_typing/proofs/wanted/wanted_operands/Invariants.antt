@@ -1,9 +1,5 @@
-use Rattle.std.proofs.Common.{◌≡◌, take}
+use Rattle.safl_typing.proofs.Common.{AreMarked, Known, operands_wanted, shown_expressions, shown_wanted, take, ◌≡◌}
 use Rattle.std.specs.Prelude.{map}
-use Rattle.safl_typing.specs.Heads.{Known}
-use Rattle.safl_typing.specs.Marks.{AreMarked}
-use Rattle.safl_typing.specs.Plain.{shown_expressions}
-use Rattle.safl_typing.specs.PlainTyped.{shown_wanted, operands_wanted}
 use Rattle.safl_typing.proofs.wanted.wanted_operands.Given as goal
 
 abbrev pub invariant-loop-operand : goal.invariant-loop-operand

@@ -1,8 +1,6 @@
+use Rattle.safl_vparse.proofs.Common.{IsRun, first_and_rest, measured, slice_rest}
 use Rattle.std.proofs.Common.{◌≡◌, ◌∷◌, ◌==◌, ◌∙◌, ap, sym, subst, not, drop, List, ℕ}
 use Rattle.safl_verilog.specs.Pieces.{first_comment}
-use Rattle.safl_word.specs.Runs.{IsRun}
-use Rattle.safl_word.proofs.Lists.{first_and_rest, slice_rest}
-use Rattle.safl_vparse.specs.Fronts.{measured}
 use Rattle.safl_vparse.proofs.Fronts.{line_found}
 use Rattle.safl_vparse.proofs.front.comment.Goals as goal
 

@@ -1,8 +1,6 @@
+use Rattle.safl_vparse.proofs.Common.{IsRun, is_digit, slice_rest}
 use Rattle.std.proofs.Common.{◌≡◌, ◌∙◌, ◌≤◌, ◌-◌, ap, sym, subst, take, drop, length, List, ℕ, Some, None}
-use Rattle.safl_word.specs.Numerals.{is_digit}
 use Rattle.safl_verilog.specs.Tokens.{next_base}
-use Rattle.safl_word.specs.Runs.{IsRun}
-use Rattle.safl_word.proofs.Lists.{slice_rest}
 use Rattle.safl_vparse.proofs.Fronts.{sized_found, number_found, base_long}
 use Rattle.safl_vparse.proofs.front.number.Goals as goal
 

@@ -1,7 +1,6 @@
+use Rattle.safl_vparse.proofs.Common.{first_and_rest, measured}
 use Rattle.std.proofs.Common.{◌∙◌, ap, sym, drop, get_or, List, ℕ}
-use Rattle.safl_word.proofs.Lists.{first_and_rest}
 use Rattle.safl_verilog.specs.Pieces.{first_symbol}
-use Rattle.safl_vparse.specs.Fronts.{measured}
 use Rattle.safl_vparse.proofs.Fronts.{two_missing}
 use Rattle.safl_vparse.proofs.front.symbol.Goals as goal
 

@@ -1,8 +1,6 @@
+use Rattle.safl_vparse.proofs.Common.{RefusesBytes, VFault, slice_rest}
 use Rattle.std.proofs.Common.{refl, sym, subst, arith}
-use Rattle.safl_word.proofs.Lists.{slice_rest}
-use Rattle.safl_verilog.specs.declared.fault.VFault.{VFault}
 use Rattle.safl_vparse.specs.declared.error.VErr.TheVariants as errors
-use Rattle.safl_vparse.specs.Fronts.{RefusesBytes}
 use Rattle.safl_vparse.proofs.Cuts.{goes_over, takes, token_within, stops_at, whole}
 use Rattle.safl_vparse.proofs.lexer.lex.Goals as goal
 

@@ -1,7 +1,5 @@
+use Rattle.safl_vparse.proofs.Common.{Token, err_from_is_err_and, shown_all}
 use Rattle.std.proofs.Common.{subst, List}
-use Rattle.std.proofs.lemmas.Result.{err_from_is_err_and}
-use Rattle.safl_verilog.specs.declared.token.Token.{Token}
-use Rattle.safl_vparse.specs.Shown.{shown_all}
 use Rattle.safl_vparse.specs.Parsed.{TokensAnswer}
 use Rattle.safl_vparse.proofs.Parsed.{parsed, unparsed, lexical_unparsed, refused_unparsed, if_refused}
 use Rattle.safl_vparse.proofs.read.parse.Goals as goal

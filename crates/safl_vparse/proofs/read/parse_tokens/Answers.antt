@@ -1,9 +1,8 @@
+use Rattle.safl_vparse.proofs.Common.{Unexpected, shown_all, shown_file}
 use Rattle.std.proofs.Common.{ap, ◌∙◌}
-use Rattle.safl_grammar.specs.Syntax.{Unexpected}
 use Rattle.safl_verilog.specs.declared.fault.VRule.TheVariants as rules
 use Rattle.safl_verilog.specs.Faults.{at}
 use Rattle.safl_verilog.proofs.Grammar.{spelled, first_fault}
-use Rattle.safl_vparse.specs.Shown.{shown_all, shown_file}
 use Rattle.safl_vparse.proofs.read.parse_tokens.Goals as goal
 
 pub returns-in-Ok : goal.returns-in-Ok

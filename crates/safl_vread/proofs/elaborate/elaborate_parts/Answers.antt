@@ -1,17 +1,10 @@
+use Rattle.safl_vread.proofs.Common.{Driver, File, HasDrivers, VErr, append_empty, declared_number_faults, err_from_is_err_and, flat_map}
 use Rattle.std.proofs.Common.{sym, subst, ◌≡◌, ◌∙◌, List, ℕ, [], Result, Ok, Err}
-use Rattle.std.specs.List.{flat_map}
-use Rattle.std.proofs.lemmas.Result.{err_from_is_err_and}
-use Rattle.safl_word.proofs.Lists.{append_empty}
-use Rattle.safl_verilog.specs.Files.{File}
 use Rattle.safl_verilog.specs.Faults.{all_number_faults, stated_number_faults}
-use Rattle.safl_verilog.specs.FaultParts.{declared_number_faults}
 use Rattle.safl_vparse.specs.declared.file.Declaration.{Declaration}
-use Rattle.safl_vparse.specs.declared.error.VErr.{VErr}
 use Rattle.safl_vparse.specs.declared.file.Span.{Span}
 use Rattle.safl_vparse.specs.declared.file.Statement.{Statement}
 use Rattle.safl_vparse.specs.Shown.{shown_declarations, shown_statements}
-use Rattle.safl_vread.specs.declared.driver.Driver.{Driver}
-use Rattle.safl_vread.specs.Drivers.{HasDrivers}
 use Rattle.safl_vread.specs.Firsts.{Answers}
 use Rattle.safl_vread.specs.Parts.{parts_at, later_faults}
 use Rattle.safl_vread.proofs.FaultsOfFile.{empty, numbers_first, header_first, declared_first, later_answers}

@@ -1,6 +1,5 @@
-use Rattle.std.proofs.Common.{sym, subst, List, ℕ}
+use Rattle.safl_vread.proofs.Common.{List, shown_declarations, subst, sym, ℕ}
 use Rattle.std.specs.Prelude.{slice_index, ◌≤◌}
-use Rattle.safl_vparse.specs.Shown.{shown_declarations}
 use Rattle.safl_vread.proofs.Widths.{all_small}
 use Rattle.safl_vread.proofs.elaborate.scope_of.Goals as goal
 

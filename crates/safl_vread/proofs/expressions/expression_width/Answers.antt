@@ -1,8 +1,5 @@
+use Rattle.safl_vread.proofs.Common.{Op, length-map, op_width, slice_index}
 use Rattle.std.proofs.Common.{ap, sym, ◌∙◌, List, ℕ, map, unwrap_or, Option, arith}
-use Rattle.std.specs.Prelude.{slice_index}
-use Rattle.std.proofs.lemmas.List.{length-map}
-use Rattle.safl_net.specs.declared.cell.Op.{Op}
-use Rattle.safl_net.specs.Widths.{op_width}
 use Rattle.safl_verilog.specs.Files.{Spot, Declaration}
 use Rattle.safl_verilog.specs.Faults.{operation, operands}
 use Rattle.safl_vparse.specs.Shown.{shown_declaration, shown_declarations, shown_expression}

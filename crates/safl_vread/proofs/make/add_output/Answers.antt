@@ -1,5 +1,4 @@
-use Rattle.std.proofs.Common.{rules}
-use Rattle.std.specs.Str.{IsUtf8}
+use Rattle.safl_vread.proofs.Common.{IsUtf8, rules}
 use Rattle.safl_vread.proofs.GoodNames.{good_text}
 use Rattle.safl_vread.proofs.make.add_output.Goals as goal
 

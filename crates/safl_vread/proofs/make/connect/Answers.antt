@@ -1,12 +1,9 @@
+use Rattle.safl_vread.proofs.Common.{Netlist, Signal, length-map, partly, signal_at, signals_at, slice_get-get_or}
 use Rattle.std.proofs.Common.{rules, ℕ, ◌<◌, List, length, get_or, None, sym, ap, ◌∙◌, arith, add-one}
-use Rattle.std.proofs.lemmas.List.{length-map}
-use Rattle.std.proofs.lemmas.Option.{slice_get-get_or}
-use Rattle.safl_net.specs.Netlist.{Netlist, Signal}
 use Rattle.safl_verilog.specs.Files.{Declaration}
 use Rattle.safl_verilog.specs.declared.token.Sort.TheVariants as sorts
 use Rattle.safl_vparse.specs.declared.file.Declaration.{Declaration as Parsed}
 use Rattle.safl_vparse.specs.Shown.{shown_declaration, shown_declarations}
-use Rattle.safl_vread.specs.Nets.{signal_at, signals_at, partly}
 use Rattle.safl_vread.proofs.Orders.{place_inside, order_long}
 use Rattle.safl_vread.proofs.Stages.{declared_there, driver_there, some_width, opens_there, sets_next, partly_long, partly_all}
 use Rattle.safl_vread.proofs.Suiting.{suits_in}

@@ -1,6 +1,4 @@
-use Rattle.std.proofs.Common.{◌≡◌}
-use Rattle.safl_vparse.specs.Shown.{shown_declarations}
-use Rattle.safl_vread.specs.Nets.{signals_at, partly}
+use Rattle.safl_vread.proofs.Common.{partly, shown_declarations, signals_at, ◌≡◌}
 use Rattle.safl_vread.proofs.make.connect.Given as goal
 
 abbrev pub invariant-loop-i : goal.invariant-loop-i

@@ -1,13 +1,10 @@
+use Rattle.safl_vread.proofs.Common.{Netlist, opened, shown_declaration, shown_declarations, signal_at, signals_at, slice_get-get_or}
 use Rattle.std.proofs.Common.{rules, ℕ, ◌<◌, List, [], length, get_or, map, None, sym, ap, ◌∙◌, arith}
 use Rattle.std.proofs.lemmas.List.{length-map, take_all, get_or_default}
-use Rattle.std.proofs.lemmas.Option.{slice_get-get_or}
-use Rattle.safl_net.specs.Netlist.{Netlist}
 use Rattle.safl_verilog.specs.declared.token.Sort.TheVariants as sorts
 use Rattle.safl_verilog.specs.Files.{Declaration}
 use Rattle.safl_vparse.specs.declared.file.Declaration.{Declaration as Parsed}
-use Rattle.safl_vparse.specs.Shown.{shown_declaration, shown_declarations}
 use Rattle.safl_vread.proofs.StatementsDrive.{distinct_names}
-use Rattle.safl_vread.specs.Nets.{opened, signal_at, signals_at}
 use Rattle.safl_vread.proofs.Orders.{place_inside}
 use Rattle.safl_vread.proofs.Stages.{declared_there, declared_long, fits_width, width_there, declares_next}
 use Rattle.safl_vread.proofs.NewNames.{good_signal, signal_free}

@@ -1,6 +1,5 @@
+use Rattle.safl_vread.proofs.Common.{opened, shown_declarations, signals_at}
 use Rattle.std.proofs.Common.{◌≡◌, ℕ, List, [], map, take}
-use Rattle.safl_vparse.specs.Shown.{shown_declarations}
-use Rattle.safl_vread.specs.Nets.{opened, signals_at}
 use Rattle.safl_vread.proofs.make.declare.Given as goal
 
 abbrev pub invariant-loop-place : goal.invariant-loop-place

@@ -1,5 +1,4 @@
-use Rattle.std.proofs.Common.{rules, List, ℕ, sym, subst}
-use Rattle.std.specs.Str.{IsUtf8}
+use Rattle.safl_vread.proofs.Common.{IsUtf8, List, rules, subst, sym, ℕ}
 use Rattle.safl_vread.proofs.GoodNames.{good_text}
 use Rattle.safl_vread.proofs.make.declare_one.Goals as goal
 

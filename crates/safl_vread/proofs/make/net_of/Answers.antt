@@ -1,12 +1,8 @@
+use Rattle.safl_vread.proofs.Common.{AreNumbers, IsOrder, Netlist, length-map, opened, shown_declaration, shown_declarations, signals_at}
 use Rattle.std.proofs.Common.{ℕ, List, [], length, map, sym, ap, subst, ◌∙◌, arith}
-use Rattle.std.proofs.lemmas.List.{length-map}
-use Rattle.safl_net.specs.Netlist.{Netlist}
 use Rattle.safl_net.specs.Names.{named_signal}
 use Rattle.safl_verilog.specs.Files.{Declaration}
-use Rattle.safl_vparse.specs.Shown.{shown_declaration, shown_declarations}
 use Rattle.safl_vread.proofs.StatementsDrive.{distinct_names}
-use Rattle.safl_vread.specs.Signals.{IsOrder, AreNumbers}
-use Rattle.safl_vread.specs.Nets.{opened, signals_at}
 use Rattle.safl_vread.proofs.SignalNames.{signals_few}
 use Rattle.safl_vread.proofs.Orders.{order_long}
 use Rattle.safl_vread.proofs.NewNames.{output_new}

@@ -1,5 +1,4 @@
-use Rattle.std.proofs.Common.{sym, ◌∙◌}
-use Rattle.safl_vparse.specs.Shown.{shown_declaration}
+use Rattle.safl_vread.proofs.Common.{shown_declaration, sym, ◌∙◌}
 use Rattle.safl_vread.proofs.NotDriven.{missing_stops, missing_goes_on}
 use Rattle.safl_vread.proofs.missing.missing_fault.Goals as goal
 

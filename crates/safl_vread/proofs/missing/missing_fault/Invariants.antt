@@ -1,10 +1,6 @@
-use Rattle.std.proofs.Common.{◌≡◌, List}
-use Rattle.std.specs.List.{flat_map}
+use Rattle.safl_vread.proofs.Common.{HasDrivers, List, first, flat_map, shown_declaration, shown_declarations, ◌≡◌}
 use Rattle.safl_verilog.specs.Files.{Statement}
 use Rattle.safl_verilog.specs.Faults.{missing_faults}
-use Rattle.safl_vparse.specs.Shown.{shown_declaration, shown_declarations}
-use Rattle.safl_vread.specs.Firsts.{first}
-use Rattle.safl_vread.specs.Drivers.{HasDrivers}
 use Rattle.safl_vread.proofs.FirstOfSeveral.{first_from}
 use Rattle.safl_vread.proofs.missing.missing_fault.Given as goal
 

@@ -1,7 +1,5 @@
-use Rattle.std.proofs.Common.{ap, ◌∙◌, Some}
+use Rattle.safl_vread.proofs.Common.{Some, ap, declared_names, shown_declaration, shown_declarations, ◌∙◌}
 use Rattle.safl_verilog.specs.Files.{Declaration}
-use Rattle.safl_verilog.specs.FaultParts.{declared_names}
-use Rattle.safl_vparse.specs.Shown.{shown_declaration, shown_declarations}
 use Rattle.safl_vread.proofs.NamesLookedUp.{item_at_both, refused, added}
 use Rattle.safl_vread.proofs.names.declared_names.Goals as goal
 

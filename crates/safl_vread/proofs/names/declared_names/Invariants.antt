@@ -1,5 +1,4 @@
-use Rattle.safl_verilog.specs.FaultParts.{declared_names}
-use Rattle.safl_vparse.specs.Shown.{shown_declarations}
+use Rattle.safl_vread.proofs.Common.{declared_names, shown_declarations}
 use Rattle.safl_vread.proofs.NamesLookedUp.{IsApart}
 use Rattle.safl_vread.proofs.names.declared_names.Given as goal
 

@@ -1,5 +1,4 @@
-use Rattle.std.proofs.Common.{ap, ◌∙◌, Some}
-use Rattle.safl_vparse.specs.Shown.{shown_spot, shown_spots}
+use Rattle.safl_vread.proofs.Common.{Some, ap, shown_spot, shown_spots, ◌∙◌}
 use Rattle.safl_vread.proofs.NamesLookedUp.{item_at, refused, added}
 use Rattle.safl_vread.proofs.names.header_names.Goals as goal
 

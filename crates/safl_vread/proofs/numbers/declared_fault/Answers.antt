@@ -1,8 +1,4 @@
-use Rattle.std.proofs.Common.{sym, ◌∙◌}
-use Rattle.std.specs.List.{flat_map}
-use Rattle.safl_verilog.specs.FaultParts.{declared_number_faults}
-use Rattle.safl_vparse.specs.Shown.{shown_declaration, shown_declarations}
-use Rattle.safl_vread.specs.Firsts.{first}
+use Rattle.safl_vread.proofs.Common.{declared_number_faults, first, flat_map, shown_declaration, shown_declarations, sym, ◌∙◌}
 use Rattle.safl_vread.proofs.FirstOfSeveral.{goes_on, stops, ends}
 use Rattle.safl_vread.proofs.numbers.declared_fault.Goals as goal
 

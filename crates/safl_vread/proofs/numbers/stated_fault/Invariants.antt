@@ -1,8 +1,4 @@
-use Rattle.std.proofs.Common.{◌≡◌}
-use Rattle.std.specs.List.{flat_map}
-use Rattle.safl_verilog.specs.Faults.{stated_number_faults}
-use Rattle.safl_vparse.specs.Shown.{shown_statement, shown_statements}
-use Rattle.safl_vread.specs.Firsts.{first}
+use Rattle.safl_vread.proofs.Common.{first, flat_map, shown_statement, shown_statements, stated_number_faults, ◌≡◌}
 use Rattle.safl_vread.proofs.FirstOfSeveral.{first_from}
 use Rattle.safl_vread.proofs.numbers.stated_fault.Given as goal
 

@@ -1,8 +1,6 @@
+use Rattle.safl_vread.proofs.Common.{length-map, shown_declaration, shown_declarations, slice_get-get_or}
 use Rattle.std.proofs.Common.{◌≡◌, ℕ, List, length, get_or, sym, subst, arith}
-use Rattle.std.proofs.lemmas.List.{length-map}
-use Rattle.std.proofs.lemmas.Option.{slice_get-get_or}
 use Rattle.safl_verilog.specs.Files.{Declaration}
-use Rattle.safl_vparse.specs.Shown.{shown_declaration, shown_declarations}
 use Rattle.safl_vread.proofs.StatementsDrive.{distinct_names}
 use Rattle.safl_vread.proofs.Orders.{place_inside}
 use Rattle.safl_vread.proofs.Numberings.{SoNumbered, order_apart, goes_on_numbers, ends_numbers}

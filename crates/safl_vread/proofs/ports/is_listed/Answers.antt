@@ -1,7 +1,6 @@
+use Rattle.safl_vread.proofs.Common.{Spot, shown_spot}
 use Rattle.std.proofs.Common.{ap, sym, ◌∙◌, ◌≡◌, not, ◌||◌, List}
-use Rattle.safl_verilog.specs.Files.{Spot}
 use Rattle.safl_verilog.specs.Faults.{among}
-use Rattle.safl_vparse.specs.Shown.{shown_spot}
 use Rattle.safl_vread.specs.Lists.{has, bytes_of_all}
 use Rattle.safl_vread.proofs.NamesLookedUp.{among_has}
 use Rattle.safl_vread.proofs.ports.is_listed.Goals as goal

@@ -1,5 +1,4 @@
-use Rattle.std.proofs.Common.{ap, ◌∙◌}
-use Rattle.safl_verilog.specs.Faults.{is_output}
+use Rattle.safl_vread.proofs.Common.{ap, is_output, ◌∙◌}
 use Rattle.safl_vread.proofs.DeclaredByName.{none_passes, some_passes}
 use Rattle.safl_vread.proofs.ports.is_output_name.Goals as goal
 

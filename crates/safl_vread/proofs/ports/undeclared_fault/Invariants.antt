@@ -1,9 +1,4 @@
-use Rattle.std.proofs.Common.{◌≡◌}
-use Rattle.std.specs.List.{flat_map}
-use Rattle.safl_verilog.specs.FaultParts.{header_faults}
-use Rattle.safl_vparse.specs.Shown.{shown_spot, shown_spots, shown_declarations}
-use Rattle.safl_vread.specs.Firsts.{first}
-use Rattle.safl_vread.specs.Scopes.{without_statements}
+use Rattle.safl_vread.proofs.Common.{first, flat_map, header_faults, shown_declarations, shown_spot, shown_spots, without_statements, ◌≡◌}
 use Rattle.safl_vread.proofs.FirstOfSeveral.{first_from}
 use Rattle.safl_vread.proofs.ports.undeclared_fault.Given as goal
 

@@ -1,9 +1,5 @@
-use Rattle.std.proofs.Common.{◌≡◌}
-use Rattle.std.specs.List.{flat_map}
-use Rattle.safl_verilog.specs.FaultParts.{port_faults}
+use Rattle.safl_vread.proofs.Common.{first, flat_map, port_faults, without_statements, ◌≡◌}
 use Rattle.safl_vparse.specs.Shown.{shown_spots, shown_declaration, shown_declarations}
-use Rattle.safl_vread.specs.Firsts.{first}
-use Rattle.safl_vread.specs.Scopes.{without_statements}
 use Rattle.safl_vread.proofs.FirstOfSeveral.{first_from}
 use Rattle.safl_vread.proofs.ports.unlisted_fault.Given as goal
 

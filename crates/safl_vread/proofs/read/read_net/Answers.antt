@@ -1,13 +1,9 @@
+use Rattle.safl_vread.proofs.Common.{GoodNames, Netlist, VErr, err_from_is_err_and, length-map}
 use Rattle.std.proofs.Common.{◌≡◌, ℕ, List, Result, Err, length, sym, ap, subst, ◌∙◌, arith}
-use Rattle.std.proofs.lemmas.List.{length-map}
-use Rattle.std.proofs.lemmas.Result.{err_from_is_err_and}
-use Rattle.safl_net.specs.Netlist.{Netlist}
 use Rattle.safl_verilog.specs.Files.{Declaration, File}
-use Rattle.safl_vparse.specs.declared.error.VErr.{VErr}
 use Rattle.safl_vparse.specs.declared.file.Declaration.{Declaration as Parsed}
 use Rattle.safl_vparse.specs.Shown.{shown_declaration, shown_declarations, shown_file}
 use Rattle.safl_vread.proofs.FaultsOfFile.{refuses_text}
-use Rattle.safl_vread.specs.Nets.{GoodNames}
 use Rattle.safl_vread.proofs.DeclaredNames.{declared_few}
 use Rattle.safl_vread.proofs.GoodNames.{good_names}
 use Rattle.safl_vread.proofs.Whole.{text_fits, text_suits, text_some, text_whole}

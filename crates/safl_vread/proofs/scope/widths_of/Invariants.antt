@@ -1,9 +1,6 @@
+use Rattle.safl_vread.proofs.Common.{declared_number_faults, flat_map, shown_declaration, widths_of}
 use Rattle.std.proofs.Common.{◌≡◌, [], drop}
-use Rattle.std.specs.List.{flat_map}
 use Rattle.std.specs.Prelude.{take, map}
-use Rattle.safl_verilog.specs.FaultParts.{declared_number_faults}
-use Rattle.safl_vparse.specs.Shown.{shown_declaration}
-use Rattle.safl_vread.specs.Lists.{widths_of}
 use Rattle.safl_vread.proofs.scope.widths_of.Given as goal
 
 abbrev pub invariant-loop-d : goal.invariant-loop-d

@@ -1,6 +1,5 @@
+use Rattle.safl_vread.proofs.Common.{err_from_is_err_and, length-map}
 use Rattle.std.proofs.Common.{ap, sym, ◌∙◌, Some, arith}
-use Rattle.std.proofs.lemmas.List.{length-map}
-use Rattle.std.proofs.lemmas.Result.{err_from_is_err_and}
 use Rattle.safl_verilog.specs.Faults.{is_target}
 use Rattle.safl_vparse.specs.Shown.{shown_spot, shown_declaration, shown_declarations, shown_expression}
 use Rattle.safl_vread.proofs.FaultsByStatement.{place_within, assigned_twice, operand_unfit, widths_apart, assign_sets}

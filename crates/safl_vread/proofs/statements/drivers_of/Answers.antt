@@ -1,8 +1,6 @@
+use Rattle.safl_vread.proofs.Common.{Driver, HasDrivers, shown_declarations, shown_statement}
 use Rattle.std.proofs.Common.{sym, subst, List, map, take}
 use Rattle.safl_verilog.specs.Files.{Declaration, Statement}
-use Rattle.safl_vparse.specs.Shown.{shown_declarations, shown_statement}
-use Rattle.safl_vread.specs.declared.driver.Driver.{Driver}
-use Rattle.safl_vread.specs.Drivers.{HasDrivers}
 use Rattle.safl_vread.proofs.StatementLoop.{number_kept, stops_at, goes_past}
 use Rattle.safl_vread.proofs.statements.drivers_of.Goals as goal
 

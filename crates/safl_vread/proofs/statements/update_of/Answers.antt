@@ -1,6 +1,4 @@
-use Rattle.std.proofs.Common.{ap, sym, ◌∙◌}
-use Rattle.safl_vparse.specs.Numbers.{literal_word}
-use Rattle.safl_vparse.specs.Shown.{shown_spot}
+use Rattle.safl_vread.proofs.Common.{ap, literal_word, shown_spot, sym, ◌∙◌}
 use Rattle.safl_vread.proofs.FaultsByStatement.{update_sets}
 use Rattle.safl_vread.proofs.statements.update_of.Goals as goal
 

@@ -1,5 +1,4 @@
-use Rattle.std.proofs.Common.{arith}
-use Rattle.safl_net.specs.WrittenParts.{input_declaration}
+use Rattle.safl_vwrite.proofs.Common.{arith, input_declaration}
 use Rattle.safl_vwrite.proofs.Signals.{signal_more}
 use Rattle.safl_vwrite.proofs.declarations.declare_inputs.Goals as goal
 

@@ -1,8 +1,5 @@
-use Rattle.std.proofs.Common.{arith, ap, ◌++◌, ◌∙◌, ℕ}
-use Rattle.std.specs.Prelude.{codes}
+use Rattle.safl_vwrite.proofs.Common.{ap, arith, codes, output_declaration, output_known, ℕ, ◌++◌, ◌∙◌}
 use Rattle.safl_net.specs.Written.{declaration}
-use Rattle.safl_net.specs.WrittenParts.{output_declaration}
-use Rattle.safl_net.proofs.SignalKinds.{output_known}
 use Rattle.safl_vwrite.proofs.Signals.{output_more}
 use Rattle.safl_vwrite.proofs.declarations.declare_outputs.Goals as goal
 

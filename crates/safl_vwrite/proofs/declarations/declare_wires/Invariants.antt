@@ -1,6 +1,4 @@
-use Rattle.std.proofs.Common.{◌≡◌, ◌++◌, take}
-use Rattle.std.specs.List.{flat_map}
-use Rattle.safl_net.specs.WrittenParts.{wire_declaration}
+use Rattle.safl_vwrite.proofs.Common.{flat_map, take, wire_declaration, ◌++◌, ◌≡◌}
 use Rattle.safl_vwrite.proofs.declarations.declare_wires.Given as goal
 
 abbrev pub invariant-loop-i : goal.invariant-loop-i

@@ -1,6 +1,4 @@
-use Rattle.std.specs.Prelude.{codes}
-use Rattle.std.specs.List.{flat_map}
-use Rattle.safl_net.specs.WrittenParts.{input_declaration, output_declaration, register_declaration, wire_declaration}
+use Rattle.safl_vwrite.proofs.Common.{codes, flat_map, input_declaration, output_declaration, register_declaration, wire_declaration}
 use Rattle.safl_vwrite.proofs.Texts.{five}
 use Rattle.safl_vwrite.proofs.declarations.push_declarations.Goals as goal
 

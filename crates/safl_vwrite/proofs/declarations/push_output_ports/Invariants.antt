@@ -1,5 +1,4 @@
-use Rattle.std.proofs.Common.{◌≡◌, ◌++◌, take}
-use Rattle.std.specs.List.{flat_map}
+use Rattle.safl_vwrite.proofs.Common.{flat_map, take, ◌++◌, ◌≡◌}
 use Rattle.safl_net.specs.WrittenParts.{output_port}
 use Rattle.safl_vwrite.proofs.declarations.push_output_ports.Given as goal
 

@@ -1,6 +1,4 @@
-use Rattle.std.proofs.Common.{ap, ◌++◌, ◌∙◌, List, ℕ}
-use Rattle.std.specs.Prelude.{codes}
-use Rattle.safl_net.specs.Written.{literal}
+use Rattle.safl_vwrite.proofs.Common.{List, ap, codes, literal, ℕ, ◌++◌, ◌∙◌}
 use Rattle.safl_vwrite.proofs.Texts.{five}
 use Rattle.safl_vwrite.proofs.pieces.push_reset.Goals as goal
 

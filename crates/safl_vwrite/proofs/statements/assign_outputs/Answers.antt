@@ -1,8 +1,5 @@
-use Rattle.std.proofs.Common.{arith, ap, ◌++◌, ◌∙◌, List, ℕ}
-use Rattle.std.specs.Prelude.{codes}
+use Rattle.safl_vwrite.proofs.Common.{List, ap, arith, codes, output_assignment, output_known, ℕ, ◌++◌, ◌∙◌}
 use Rattle.safl_net.specs.Making.{name_at}
-use Rattle.safl_net.specs.WrittenParts.{output_assignment}
-use Rattle.safl_net.proofs.SignalKinds.{output_known}
 use Rattle.safl_vwrite.proofs.Signals.{output_more}
 use Rattle.safl_vwrite.proofs.Texts.{three}
 use Rattle.safl_vwrite.proofs.statements.assign_outputs.Goals as goal

@@ -1,6 +1,4 @@
-use Rattle.std.proofs.Common.{◌≡◌, ◌++◌, take}
-use Rattle.std.specs.List.{flat_map}
-use Rattle.safl_net.specs.WrittenParts.{output_assignment}
+use Rattle.safl_vwrite.proofs.Common.{flat_map, output_assignment, take, ◌++◌, ◌≡◌}
 use Rattle.safl_vwrite.proofs.statements.assign_outputs.Given as goal
 
 abbrev pub invariant-loop-i : goal.invariant-loop-i

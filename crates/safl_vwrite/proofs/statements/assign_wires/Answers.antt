@@ -1,5 +1,4 @@
-use Rattle.std.proofs.Common.{arith}
-use Rattle.safl_net.specs.WrittenParts.{wire_assignment}
+use Rattle.safl_vwrite.proofs.Common.{arith, wire_assignment}
 use Rattle.safl_vwrite.proofs.Signals.{signal_more}
 use Rattle.safl_vwrite.proofs.statements.assign_wires.Goals as goal
 

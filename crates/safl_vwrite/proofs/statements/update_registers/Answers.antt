@@ -1,5 +1,4 @@
-use Rattle.std.proofs.Common.{arith}
-use Rattle.safl_net.specs.WrittenParts.{register_update}
+use Rattle.safl_vwrite.proofs.Common.{arith, register_update}
 use Rattle.safl_vwrite.proofs.Signals.{signal_more}
 use Rattle.safl_vwrite.proofs.statements.update_registers.Goals as goal
 

@@ -1,6 +1,4 @@
-use Rattle.std.proofs.Common.{◌≡◌, ◌++◌, take}
-use Rattle.std.specs.List.{flat_map}
-use Rattle.safl_net.specs.WrittenParts.{register_update}
+use Rattle.safl_vwrite.proofs.Common.{flat_map, register_update, take, ◌++◌, ◌≡◌}
 use Rattle.safl_vwrite.proofs.statements.update_registers.Given as goal
 
 abbrev pub invariant-loop-i : goal.invariant-loop-i

@@ -1,5 +1,4 @@
-use Rattle.std.proofs.Common.{arith}
-use Rattle.std.proofs.lemmas.Bool.{lt-ltb}
+use Rattle.safl_word.proofs.Common.{arith, lt-ltb}
 use Rattle.safl_word.proofs.LowBits.{low_of_shifted}
 use Rattle.safl_word.proofs.narrow.left_shift.Goals as goal
 

@@ -1,6 +1,4 @@
-use Rattle.std.proofs.Common.{◌≡◌, ◌<◌, ◌^◌, take, true}
-use Rattle.std.specs.List.{list_all}
-use Rattle.safl_word.specs.Numerals.{is_digit, value}
+use Rattle.safl_word.proofs.Common.{is_digit, list_all, take, true, value, ◌<◌, ◌^◌, ◌≡◌}
 use Rattle.safl_word.proofs.numbers.numeral.Given as goal
 
 abbrev pub invariant-loop-c : goal.invariant-loop-c

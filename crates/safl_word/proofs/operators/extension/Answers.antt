@@ -1,5 +1,4 @@
-use Rattle.std.proofs.Common.{arith}
-use Rattle.std.proofs.Math.Pow.{pow_mono}
+use Rattle.safl_word.proofs.Common.{arith, pow_mono}
 use Rattle.safl_word.proofs.operators.extension.Goals as goal
 
 pub from_parts-requires : goal.from_parts-requires

@@ -1,5 +1,4 @@
-use Rattle.std.proofs.Common.{◌≡◌, take}
-use Rattle.safl_bits.specs.Sharing.{pairs}
+use Rattle.safl_bits.proofs.Common.{pairs, take, ◌≡◌}
 use Rattle.safl_bits.proofs.graph.Graph.ands.Given as goal
 
 abbrev pub invariant-ands : goal.invariant-ands

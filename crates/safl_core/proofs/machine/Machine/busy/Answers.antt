@@ -1,6 +1,4 @@
-use Rattle.std.proofs.Common.{sym, ap, ◌∙◌}
-use Rattle.safl_core.specs.Listing.{busy}
-use Rattle.safl_core.specs.Shown.{Shown, state}
+use Rattle.safl_core.proofs.Common.{Shown, ap, busy, state, sym, ◌∙◌}
 use Rattle.safl_core.proofs.EventAtPlace.{busy_marked}
 use Rattle.safl_core.proofs.machine.Machine.busy.Goals as goal
 

@@ -1,15 +1,8 @@
-use Rattle.std.proofs.Common.{◌&&◌, List, Option, get_or, ap, ◌∙◌, arith}
-use Rattle.safl_word.specs.Words.{Word}
-use Rattle.safl_term.specs.Program.{unit_for}
+use Rattle.safl_core.proofs.Common.{Answer, List, NotYet, Option, Word, ap, arith, delivers_to, event_of, get_or, is_idle, is_ready}
+use Rattle.safl_core.proofs.Common.{is_sent, loops_to, runs, stage_at, unit_at, unit_for, wanted_at, ◌&&◌, ◌∙◌}
 use Rattle.safl_calls.specs.Machine.{Accept, Finish, Return, LoopInto, is_unsent}
-use Rattle.safl_term.specs.Readiness.{Answer, NotYet}
 use Rattle.safl_core.specs.declared.mode.Mode.{Mode}
 use Rattle.safl_evaluate.specs.declared.stage.Stage.{Stage}
-use Rattle.safl_core.specs.Modes.{unit_at}
-use Rattle.safl_core.specs.Shown.{event_of}
-use Rattle.safl_evaluate.specs.Stages.{stage_at}
-use Rattle.safl_core.specs.Testing.{wanted_at, is_idle, runs, is_sent, delivers_to}
-use Rattle.safl_evaluate.specs.Answers.{is_ready, loops_to}
 use Rattle.safl_core.proofs.KeptByEvents.{finish_in, return_in, looping}
 use Rattle.safl_core.proofs.LawsOfKept.{tested_as, refused_as, accept_test, accept_within, finish_test, return_test, loop_test}
 use Rattle.safl_core.proofs.machine.Machine.enabled.Goals as goal

@@ -1,6 +1,4 @@
-use Rattle.std.proofs.Common.{subst}
-use Rattle.safl_core.specs.Outcomes.{IsBounded}
-use Rattle.safl_core.specs.Shown.{Shown}
+use Rattle.safl_core.proofs.Common.{IsBounded, Shown, subst}
 use Rattle.safl_core.proofs.LawsOfKept.{bounded}
 use Rattle.safl_core.proofs.machine.Machine.events.Goals as goal
 

@@ -1,11 +1,6 @@
-use Rattle.std.proofs.Common.{ℕ, ◌+◌, List, ap, ◌∙◌, sym, subst}
+use Rattle.safl_core.proofs.Common.{CanFire, IsPlan, List, ap, calls_of, delivered, event_of, subst, sym, unit_at, ℕ, ◌+◌, ◌∙◌}
 use Rattle.safl_calls.specs.Machine.{State}
 use Rattle.safl_core.specs.declared.mode.Mode.{Mode}
-use Rattle.safl_core.specs.Modes.{unit_at}
-use Rattle.safl_evaluate.specs.Laying.{IsPlan}
-use Rattle.safl_core.specs.Shown.{event_of, CanFire}
-use Rattle.safl_core.specs.States.{calls_of}
-use Rattle.safl_core.specs.Testing.{delivered}
 use Rattle.safl_core.proofs.KeptByEvents.{good, inv}
 use Rattle.safl_core.proofs.CallsOfSites.{waits_same}
 use Rattle.safl_core.proofs.SeenByUnits.{Local, local_fire, marked_after, there}

@@ -1,13 +1,11 @@
+use Rattle.safl_core.proofs.Common.{IsPlan, Word, widths, widths_len}
 use Rattle.std.proofs.Common.{◌≡◌, ℕ, List, Option, None, get_or, ◌∙◌, ap, refl, sym, subst, length, arith}
-use Rattle.safl_word.specs.Words.{Word, widths}
 use Rattle.safl_calls.specs.Machine.{State}
 use Rattle.safl_calls.specs.Machine as core
 use Rattle.safl_core.proofs.KeptAtFirst.{kept_open, opens}
 use Rattle.safl_core.proofs.SetsAtFirst.{marked_first}
 use Rattle.safl_core.proofs.LawsOfKept.{sized}
 use Rattle.safl_core.specs.Marking.{AreMarked}
-use Rattle.safl_evaluate.specs.Laying.{IsPlan}
-use Rattle.safl_evaluate.proofs.RunsByParts.{widths_len}
 use Rattle.safl_core.proofs.machine.Machine.opened.Goals as goal
 
 idle_runs : (f k : ℕ) (ws : List Word) → core.Idle ≡ core.Runs f k ws → ⊥

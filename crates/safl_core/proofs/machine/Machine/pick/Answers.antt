@@ -1,9 +1,5 @@
+use Rattle.safl_core.proofs.Common.{CanFire, IsPicked, Shown, calls_of, event_of, listed, slice_get, state}
 use Rattle.std.proofs.Common.{◌≡◌, ◌%◌, None, Some, subst, sym, ap, ◌∙◌, length}
-use Rattle.std.specs.Prelude.{slice_get}
-use Rattle.safl_core.specs.Listing.{listed}
-use Rattle.safl_core.specs.Picking.{IsPicked}
-use Rattle.safl_core.specs.Shown.{Shown, state, event_of, CanFire}
-use Rattle.safl_core.specs.States.{calls_of}
 use Rattle.safl_core.proofs.EnabledByPlace.{none_listed, listing}
 use Rattle.safl_core.proofs.LawsOfKept.{enabled_of}
 use Rattle.safl_core.proofs.EventAtPlace.{listed_long, nth_listed}

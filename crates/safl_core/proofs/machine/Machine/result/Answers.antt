@@ -1,7 +1,4 @@
-use Rattle.std.proofs.Common.{subst, ap, arith}
-use Rattle.safl_term.specs.Readiness.{back_word}
-use Rattle.safl_core.specs.Outcomes.{IsValue, GoesOn, IsOver}
-use Rattle.safl_core.specs.Shown.{Shown}
+use Rattle.safl_core.proofs.Common.{GoesOn, IsOver, IsValue, Shown, ap, arith, back_word, subst}
 use Rattle.safl_core.specs.Walking.{IsShort}
 use Rattle.safl_core.proofs.WalksByTurns.{short_of}
 use Rattle.safl_core.proofs.LawsOfKept.{value_of, goes_on, over, read_stage}

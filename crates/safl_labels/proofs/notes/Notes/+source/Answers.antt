@@ -1,6 +1,4 @@
-use Rattle.std.proofs.Common.{rules}
-use Rattle.safl_term.specs.Tree.{shown_term}
-use Rattle.safl_term.proofs.PlainTerms.{some_nodes}
+use Rattle.safl_labels.proofs.Common.{rules, shown_term, some_nodes}
 use Rattle.safl_labels.proofs.notes.Notes.+source.Goals as goal
 
 pub source_in-source_in-requires : goal.source_in-source_in-requires

@@ -1,6 +1,5 @@
+use Rattle.safl_net.proofs.Common.{Netlist, has_name, named_output, named_signal}
 use Rattle.std.proofs.Common.{◌≡◌, Bool, true, false, ◌||◌, ap, ◌∙◌}
-use Rattle.safl_net.specs.Netlist.{Netlist}
-use Rattle.safl_net.specs.Names.{has_name, named_signal, named_output}
 use Rattle.safl_net.specs.Stored.{signals_of, outputs_of}
 use Rattle.safl_net.proofs.Tables.{signal_found, output_found}
 use Rattle.safl_net.proofs.net.Net.has_name.Goals as goal

@@ -1,10 +1,6 @@
+use Rattle.safl_net.proofs.Common.{Global, Netlist, Sig, insert_entry-new, with_output}
 use Rattle.std.proofs.Common.{◌≡◌, ℕ, ◌<◌, List, [], ◌∷◌, ◌++◌, length, true, false, string_bytes, String, sym, ap, subst, ◌∙◌, arith}
-use Rattle.std.specs.declared.alloc.Global.{Global}
-use Rattle.indexmap.proofs.CallerLemmas.{insert_entry-new}
-use Rattle.safl_net.specs.declared.cell.Sig.{Sig}
-use Rattle.safl_net.specs.Netlist.{Netlist}
 use Rattle.safl_net.specs.Names.{is_good, has_name}
-use Rattle.safl_net.specs.Making.{with_output}
 use Rattle.safl_net.specs.Stored.{signals_of, outputs_of, net_of, KeepsNetlist}
 use Rattle.safl_net.proofs.Tables.{no_output, outputs_push, outputs_kept}
 use Rattle.safl_net.proofs.net.Net.output.Goals as goal

@@ -1,11 +1,5 @@
+use Rattle.safl_net.proofs.Common.{Global, Netlist, Row, Signal, SignalFits, has_name, insert_entry-new, one_wire, with_signal}
 use Rattle.std.proofs.Common.{◌≡◌, ℕ, ◌+◌, ◌<◌, List, [], ◌∷◌, ◌++◌, length, false, String, string_bytes, sym, ap, subst, ◌∙◌, arith}
-use Rattle.std.specs.declared.alloc.Global.{Global}
-use Rattle.indexmap.proofs.CallerLemmas.{insert_entry-new}
-use Rattle.safl_net.specs.declared.net.Row.{Row}
-use Rattle.safl_net.specs.Netlist.{Netlist, Signal}
-use Rattle.safl_net.specs.Names.{has_name, one_wire}
-use Rattle.safl_net.specs.Making.{with_signal}
-use Rattle.safl_net.specs.Rules.{SignalFits}
 use Rattle.safl_net.specs.Stored.{kind_of, signal_of, signals_of, outputs_of, net_of, KeepsNetlist}
 use Rattle.safl_net.proofs.Tables.{no_signal, wire_or_not, wires_few, signals_push, rows_kept}
 use Rattle.safl_net.proofs.net.Net.push.Goals as goal

@@ -1,6 +1,5 @@
+use Rattle.safl_net.proofs.Common.{Cell, CellFits, width_of}
 use Rattle.std.proofs.Common.{◌≡◌, rules, is_some, Some, sym, subst, ◌∙◌, ap}
-use Rattle.safl_net.specs.Netlist.{Cell, width_of}
-use Rattle.safl_net.specs.Rules.{CellFits}
 use Rattle.safl_net.proofs.Keeping.{cell_fits}
 use Rattle.safl_net.proofs.net.Net.set_cell.Goals as goal
 

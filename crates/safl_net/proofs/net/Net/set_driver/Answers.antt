@@ -1,11 +1,8 @@
+use Rattle.safl_net.proofs.Common.{KindFits, Netlist, Row, Signal, one_wire, width_in, width_of}
 use Rattle.std.proofs.Common.{◌≡◌, ℕ, List, Some, slice_get, sym, ap, subst, ◌∙◌}
 use Rattle.std.specs.Option.{option_copied_mut}
 use Rattle.std.specs.Map.{values_of}
-use Rattle.safl_net.specs.declared.net.Row.{Row}
-use Rattle.safl_net.specs.Netlist.{Netlist, Signal, width_in, width_of}
-use Rattle.safl_net.specs.Names.{one_wire}
 use Rattle.safl_net.specs.Making.{kind_in, kind_at, with_kind}
-use Rattle.safl_net.specs.Rules.{KindFits}
 use Rattle.safl_net.specs.Stored.{kind_of, outputs_of, net_of, ResetFits}
 use Rattle.safl_net.proofs.Tables.{row_at, rows_set, signals_set}
 use Rattle.safl_net.proofs.net.Net.set_driver.Goals as goal

@@ -1,8 +1,7 @@
+use Rattle.safl_net.proofs.Common.{Cell, CellFits, IsNetlist, Netlist}
 use Rattle.std.proofs.Common.{length, is_some, refl, sym, ap, subst, ◌∙◌, arith}
-use Rattle.safl_net.specs.Netlist.{Netlist, Cell}
 use Rattle.safl_net.specs.Names.{is_good, has_name, temp_name, wires}
 use Rattle.safl_net.specs.Making.{numbers, signal_widths}
-use Rattle.safl_net.specs.Rules.{IsNetlist, CellFits}
 use Rattle.safl_net.specs.Stored.{signals_of}
 use Rattle.safl_net.proofs.Keeping.{cell_fits, numbers_known}
 use Rattle.safl_net.proofs.Tables.{wires_few}

@@ -1,6 +1,4 @@
-use Rattle.std.proofs.Common.{ap, ◌∙◌, arith}
-use Rattle.std.specs.Prelude.{sum}
-use Rattle.safl_number_set.specs.Groups.{Grouped, counted, shown_groups}
+use Rattle.safl_number_set.proofs.Common.{Grouped, ap, arith, counted, shown_groups, sum, ◌∙◌}
 use Rattle.safl_number_set.proofs.SumsOfParts.{sum_all, sum_bits}
 use Rattle.safl_number_set.proofs.CountedGroups.{counted_long, counted_bits}
 use Rattle.safl_number_set.proofs.grouped_set.GroupedSet.len.Goals as goal

@@ -1,5 +1,4 @@
-use Rattle.std.proofs.Common.{◌≡◌, ◌+◌, ◌/◌, ℕ, List, length, replicate, sym, ap, ◌∙◌, arith}
-use Rattle.safl_number_set.specs.Groups.{Grouped}
+use Rattle.safl_number_set.proofs.Common.{Grouped, List, ap, arith, length, replicate, sym, ℕ, ◌+◌, ◌/◌, ◌∙◌, ◌≡◌}
 use Rattle.safl_number_set.proofs.FreshGroups.{fresh_tallies}
 use Rattle.safl_number_set.proofs.grouped_set.GroupedSet.new.Goals as goal
 

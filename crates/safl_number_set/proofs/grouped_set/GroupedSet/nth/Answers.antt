@@ -1,6 +1,4 @@
-use Rattle.std.proofs.Common.{◌≡◌, ℕ, ◌*◌, ◌<◌, List, length, take, sym, ap, ◌∙◌, arith}
-use Rattle.std.specs.Prelude.{sum}
-use Rattle.safl_number_set.specs.Groups.{Grouped, counted, shown_groups}
+use Rattle.safl_number_set.proofs.Common.{Grouped, List, ap, arith, counted, length, shown_groups, sum, sym, take, ℕ, ◌*◌, ◌<◌, ◌∙◌, ◌≡◌}
 use Rattle.safl_number_set.proofs.SumsOfParts.{sum_all, sum_bits, sum_to}
 use Rattle.safl_number_set.proofs.CountedGroups.{counted_long, counted_bits}
 use Rattle.safl_number_set.proofs.grouped_set.GroupedSet.nth.Goals as goal

@@ -1,5 +1,4 @@
-use Rattle.std.proofs.Common.{◌≡◌, ℕ, ◌<◌, List, length, get_or, sym, ap, ◌∙◌, subst, arith}
-use Rattle.std.proofs.lemmas.List.{get_or_read}
+use Rattle.safl_number_set.proofs.Common.{List, ap, arith, get_or, get_or_read, length, subst, sym, ℕ, ◌<◌, ◌∙◌, ◌≡◌}
 use Rattle.safl_number_set.specs.Groups.{Grouped, Tallies, counted}
 use Rattle.safl_number_set.proofs.CountedGroups.{bit_of, put_open, put_closed, open_least}
 use Rattle.safl_number_set.proofs.grouped_set.GroupedSet.put.Goals as goal

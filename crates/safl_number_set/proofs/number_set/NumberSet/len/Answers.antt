@@ -1,5 +1,4 @@
-use Rattle.std.proofs.Common.{ℕ, List, ap, ◌∙◌, arith}
-use Rattle.std.specs.Prelude.{sum}
+use Rattle.safl_number_set.proofs.Common.{List, ap, arith, sum, ℕ, ◌∙◌}
 use Rattle.safl_number_set.proofs.SumsOfParts.{are_few}
 use Rattle.safl_number_set.proofs.number_set.NumberSet.len.Goals as goal
 

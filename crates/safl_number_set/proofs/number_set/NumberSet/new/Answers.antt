@@ -1,5 +1,4 @@
-use Rattle.std.proofs.Common.{◌≡◌, ℕ, ◌+◌, ◌/◌, List, replicate, sym, subst, arith}
-use Rattle.safl_number_set.specs.Numbers.{IsCounted}
+use Rattle.safl_number_set.proofs.Common.{IsCounted, List, arith, replicate, subst, sym, ℕ, ◌+◌, ◌/◌, ◌≡◌}
 use Rattle.safl_number_set.proofs.SumsOfParts.{none_counted}
 use Rattle.safl_number_set.proofs.number_set.NumberSet.new.Goals as goal
 

@@ -1,5 +1,4 @@
-use Rattle.std.proofs.Common.{◌≡◌, ℕ, ◌*◌, ◌<◌, List, length, take, sym, ap, ◌∙◌, arith}
-use Rattle.std.specs.Prelude.{sum}
+use Rattle.safl_number_set.proofs.Common.{List, ap, arith, length, sum, sym, take, ℕ, ◌*◌, ◌<◌, ◌∙◌, ◌≡◌}
 use Rattle.safl_number_set.proofs.SumsOfParts.{are_few, sum_to}
 use Rattle.safl_number_set.proofs.number_set.NumberSet.nth.Goals as goal
 

@@ -1,5 +1,4 @@
-use Rattle.std.proofs.Common.{◌≡◌, ℕ, ◌-◌, ◌/◌, ◌<◌, List, length, get_or, sym, subst, arith}
-use Rattle.std.proofs.lemmas.List.{get_or_read}
+use Rattle.safl_number_set.proofs.Common.{List, arith, get_or, get_or_read, length, subst, sym, ℕ, ◌-◌, ◌/◌, ◌<◌, ◌≡◌}
 use Rattle.safl_number_set.proofs.SumsOfParts.{set_counted, part_least, bit_least}
 use Rattle.safl_number_set.proofs.number_set.NumberSet.remove.Goals as goal
 

@@ -1,8 +1,7 @@
+use Rattle.safl_number_set.proofs.Common.{get_or_read, shift_of}
 use Rattle.std.proofs.Common.{◌≡◌, ℕ, ◌/◌, ◌<◌, ◌≤◌, length, get_or, ap, ◌∙◌, arith, length-set}
 use Rattle.std.specs.Prelude.{slice_set}
-use Rattle.std.proofs.lemmas.List.{get_or_read}
 use Rattle.std.proofs.lemmas.List.Sums.{sum_by-set, get_or-le-sum_by}
-use Rattle.safl_number_set.specs.Tallies.{shift_of}
 use Rattle.safl_number_set.proofs.SumsOfParts.{sums_set, sum_all, part_least}
 use Rattle.safl_number_set.proofs.CountedGroups.{shift_balance}
 use Rattle.safl_number_set.proofs.tally.Tally.shift.Goals as goal

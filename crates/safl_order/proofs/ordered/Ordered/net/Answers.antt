@@ -1,6 +1,5 @@
+use Rattle.safl_order.proofs.Common.{IsAcyclic, numbers}
 use Rattle.std.proofs.Common.{ap, subst}
-use Rattle.safl_net.specs.Valuations.{IsAcyclic}
-use Rattle.safl_net.specs.Making.{numbers}
 use Rattle.safl_order.specs.Order.{Order}
 use Rattle.safl_order.proofs.Ends.{order_acyclic}
 use Rattle.safl_order.proofs.ordered.Ordered.net.Goals as goal

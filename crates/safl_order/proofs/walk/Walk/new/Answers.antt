@@ -1,9 +1,5 @@
+use Rattle.safl_order.proofs.Common.{Frame, Mark, Sig, Unseen, Walks}
 use Rattle.std.proofs.Common.{◌≡◌, List, [], length, replicate, sym, ap, subst, ◌∙◌}
-use Rattle.safl_net.specs.declared.cell.Sig.{Sig}
-use Rattle.safl_order.specs.declared.walk.Mark.{Mark}
-use Rattle.safl_order.specs.declared.walk.Mark.TheVariants.{Unseen}
-use Rattle.safl_order.specs.declared.walk.Frame.{Frame}
-use Rattle.safl_order.specs.Walk.{Walks}
 use Rattle.safl_order.proofs.Steps.{walks_none}
 use Rattle.safl_order.proofs.walk.Walk.new.Goals as goal
 

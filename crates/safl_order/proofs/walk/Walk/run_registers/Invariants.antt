@@ -1,5 +1,4 @@
-use Rattle.std.proofs.Common.{◌≡◌, []}
-use Rattle.safl_order.specs.Walk.{Walks}
+use Rattle.safl_order.proofs.Common.{Walks, [], ◌≡◌}
 use Rattle.safl_order.proofs.walk.Walk.run_registers.Given as goal
 
 abbrev pub invariant-signals : goal.invariant-signals

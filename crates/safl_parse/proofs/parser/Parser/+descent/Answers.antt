@@ -1,8 +1,4 @@
-use Rattle.std.proofs.Common.{sym, ◌∙◌}
-use Rattle.std.proofs.lemmas.Result.{err_from_is_err_and}
-use Rattle.safl_grammar.proofs.Many.{goes_on, stops_here}
-use Rattle.safl_tree.specs.Terminals.{terminals}
-use Rattle.safl_tree.specs.Codes.{operators, comes}
+use Rattle.safl_parse.proofs.Common.{comes, err_from_is_err_and, goes_on, operators, stops_here, sym, terminals, ◌∙◌}
 use Rattle.safl_tree.specs.Shown.{shown_tree, shown_trees, shown_bounds}
 use Rattle.safl_tree.specs.Reader.{comma, operand_at, expr_at, read_unary, read_chain, read_joined, read_another, read_another_bind}
 use Rattle.safl_tree.proofs.Layers.{joined_eats}

@@ -1,8 +1,5 @@
+use Rattle.safl_parse.proofs.Common.{comes, operators, read_many, shown_bounds, shown_tree, shown_trees, terminals}
 use Rattle.std.proofs.Common.{◌≡◌, ◌+◌, ◌*◌, length}
-use Rattle.safl_grammar.specs.Reading.{read_many}
-use Rattle.safl_tree.specs.Terminals.{terminals}
-use Rattle.safl_tree.specs.Codes.{operators, comes}
-use Rattle.safl_tree.specs.Shown.{shown_tree, shown_trees, shown_bounds}
 use Rattle.safl_tree.specs.Reader.{comma, operand_at, expr_at, read_unary, read_chain, read_joined, read_chained, read_exprs, read_another, read_binds, read_another_bind}
 use Rattle.safl_parse.proofs.parser.Parser.+descent.Given as goal
 

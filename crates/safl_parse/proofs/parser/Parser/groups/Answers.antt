@@ -1,10 +1,6 @@
-use Rattle.std.proofs.Common.{[], ◌∷◌, sym, ◌∙◌}
+use Rattle.safl_parse.proofs.Common.{[], comes, goes_on, shown_definitions, stops_here, sym, terminals, word_code, ◌∙◌, ◌∷◌}
 use Rattle.std.proofs.lemmas.Result.{err_from_is_err_and}
-use Rattle.safl_grammar.proofs.Many.{goes_on, stops_here}
 use Rattle.safl_word.specs.declared.token.Key.TheVariants as keys
-use Rattle.safl_tree.specs.Terminals.{terminals}
-use Rattle.safl_tree.specs.Codes.{word_code, comes}
-use Rattle.safl_tree.specs.Shown.{shown_definitions}
 use Rattle.safl_tree.specs.Reader.{expr_at, read_another_group}
 use Rattle.safl_tree.proofs.PrintedPrograms.{group_eats}
 use Rattle.safl_parse.proofs.Loops.{fails}

@@ -1,9 +1,5 @@
-use Rattle.std.proofs.Common.{◌≡◌, [], ◌∷◌, length}
-use Rattle.safl_grammar.specs.Reading.{read_many}
+use Rattle.safl_parse.proofs.Common.{[], comes, length, read_many, shown_definitions, terminals, word_code, ◌∷◌, ◌≡◌}
 use Rattle.safl_word.specs.declared.token.Key.TheVariants as keys
-use Rattle.safl_tree.specs.Terminals.{terminals}
-use Rattle.safl_tree.specs.Codes.{word_code, comes}
-use Rattle.safl_tree.specs.Shown.{shown_definitions}
 use Rattle.safl_tree.specs.Reader.{expr_at, read_another_group, read_program}
 use Rattle.safl_parse.proofs.parser.Parser.groups.Given as goal
 

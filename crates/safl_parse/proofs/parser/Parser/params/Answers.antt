@@ -1,9 +1,4 @@
-use Rattle.std.proofs.Common.{sym, ◌∙◌}
-use Rattle.std.proofs.lemmas.Result.{err_from_is_err_and}
-use Rattle.safl_grammar.proofs.Many.{goes_on, stops_here}
-use Rattle.safl_tree.specs.Terminals.{terminals}
-use Rattle.safl_tree.specs.Codes.{comes}
-use Rattle.safl_tree.specs.Shown.{shown_parameters}
+use Rattle.safl_parse.proofs.Common.{comes, err_from_is_err_and, goes_on, shown_parameters, stops_here, sym, terminals, ◌∙◌}
 use Rattle.safl_tree.specs.Reader.{comma, read_another_param}
 use Rattle.safl_parse.proofs.Loops.{another_param_eats, fails}
 use Rattle.safl_parse.proofs.parser.Parser.params.Goals as goal

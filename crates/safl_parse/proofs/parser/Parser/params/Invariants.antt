@@ -1,8 +1,4 @@
-use Rattle.std.proofs.Common.{◌≡◌, length}
-use Rattle.safl_grammar.specs.Reading.{read_many}
-use Rattle.safl_tree.specs.Terminals.{terminals}
-use Rattle.safl_tree.specs.Codes.{comes}
-use Rattle.safl_tree.specs.Shown.{shown_parameters}
+use Rattle.safl_parse.proofs.Common.{comes, length, read_many, shown_parameters, terminals, ◌≡◌}
 use Rattle.safl_tree.specs.Reader.{comma, read_another_param, read_params}
 use Rattle.safl_parse.proofs.parser.Parser.params.Given as goal
 

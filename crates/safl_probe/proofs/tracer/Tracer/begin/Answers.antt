@@ -1,8 +1,5 @@
-use Rattle.std.proofs.Common.{map, ap, ◌∙◌}
+use Rattle.safl_probe.proofs.Common.{TraceKind, ap, begun, map, spot_of, ◌∙◌}
 use Rattle.safl_probe.specs.Watching.{watched_by}
-use Rattle.safl_probe.specs.Probing.{begun}
-use Rattle.safl_probe.specs.Entries.{spot_of}
-use Rattle.safl_probe.specs.declared.kind.TraceKind.{TraceKind}
 use Rattle.safl_probe.proofs.Told.{told_begun}
 use Rattle.safl_probe.proofs.tracer.Tracer.begin.Goals as goal
 

@@ -1,9 +1,5 @@
-use Rattle.std.proofs.Common.{map, sym, ap, ◌∙◌, arith}
+use Rattle.safl_probe.proofs.Common.{ProbeState, Valuation, Word, after_frame, ap, arith, map, sym, with_items_is, ◌∙◌}
 use Rattle.std.specs.Vec.{with_items}
-use Rattle.std.proofs.lemmas.List.{with_items_is}
-use Rattle.safl_word.specs.Words.{Word}
-use Rattle.safl_net.specs.Valuations.{Valuation}
-use Rattle.safl_probe.specs.Probing.{ProbeState, after_frame}
 use Rattle.safl_probe.specs.Entries.{looked_all}
 use Rattle.safl_probe.proofs.Told.{told_after}
 use Rattle.safl_probe.proofs.tracer.Tracer.cycle.Goals as goal

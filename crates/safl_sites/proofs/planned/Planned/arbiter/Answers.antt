@@ -1,7 +1,5 @@
+use Rattle.safl_sites.proofs.Common.{CheckedProgram, HasArbiter, get_or_read}
 use Rattle.std.proofs.Common.{◌≡◌, ◌<◌, ℕ, false, length, get_or, sym, ap, ◌∙◌, subst, arith}
-use Rattle.std.proofs.lemmas.List.{get_or_read}
-use Rattle.safl_term.specs.Checked.{CheckedProgram}
-use Rattle.safl_sites.specs.Plan.{HasArbiter}
 use Rattle.safl_sites.specs.Planned.{PlannedProgram, choice_of}
 use Rattle.safl_sites.proofs.planned.Planned.arbiter.Goals as goal
 

@@ -1,8 +1,6 @@
-use Rattle.std.proofs.Common.{◌<◌, ◌≤◌, length, arith, sym, ◌∙◌, ap, subst}
-use Rattle.safl_term.specs.Checked.{CheckedProgram}
+use Rattle.safl_sites.proofs.Common.{CheckedProgram, SiteSet, ap, arith, length, subst, sym, ◌<◌, ◌∙◌, ◌≤◌}
 use Rattle.safl_sites.specs.Parallel.{ComesBefore}
 use Rattle.safl_sites.specs.SiteSets.{has}
-use Rattle.safl_sites.specs.declared.site_set.SiteSet.{SiteSet}
 use Rattle.safl_sites.proofs.SetsByWords.{set_found}
 use Rattle.safl_sites.proofs.planned.Planned.comes_before.Goals as goal
 

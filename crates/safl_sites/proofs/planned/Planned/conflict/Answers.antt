@@ -1,7 +1,5 @@
-use Rattle.std.proofs.Common.{◌≡◌, sym, ◌∙◌, ap, subst, inl, inr}
+use Rattle.safl_sites.proofs.Common.{CheckedProgram, ap, inl, inr, subst, sym, unit_for, ◌∙◌, ◌≡◌}
 use Rattle.std.proofs.lemmas.Bool.{both_ways}
-use Rattle.safl_term.specs.Checked.{CheckedProgram}
-use Rattle.safl_term.specs.Program.{unit_for}
 use Rattle.safl_sites.proofs.EarlierConflicts.{conflict_of, conflict_by}
 use Rattle.safl_sites.proofs.planned.Planned.conflict.Goals as goal
 

@@ -1,6 +1,5 @@
+use Rattle.safl_sites.proofs.Common.{CheckedProgram, get_or_read}
 use Rattle.std.proofs.Common.{◌≡◌, ◌<◌, ◌≤◌, false, length, get_or, sym, ap, ◌∙◌, subst, arith}
-use Rattle.std.proofs.lemmas.List.{get_or_read}
-use Rattle.safl_term.specs.Checked.{CheckedProgram}
 use Rattle.safl_sites.specs.Kept.{Kept}
 use Rattle.safl_sites.specs.Planned.{PlannedProgram, choice_of}
 use Rattle.safl_sites.proofs.planned.Planned.kept.Goals as goal

@@ -1,9 +1,6 @@
+use Rattle.safl_sites.proofs.Common.{SiteSet, cases_eq, cases_lt, get_or-set_at, get_or-set_other}
 use Rattle.std.proofs.Common.{◌≡◌, ◌/◌, ◌%◌, ◌<◌, ◌^◌, ◌*◌, ◌⊎◌, Bool, true, length, get_or, slice_set, bit_and, bit_or, arith, sym, ◌∙◌, ap, subst, inl, inr, w64}
-use Rattle.std.proofs.lemmas.Bool.{cases_eq, cases_lt}
-use Rattle.std.proofs.lemmas.Grind.{get_or-set_at}
-use Rattle.std.proofs.lemmas.List.{get_or-set_other}
 use Rattle.std.specs.Int.{bit_not}
-use Rattle.safl_sites.specs.declared.site_set.SiteSet.{SiteSet}
 use Rattle.safl_sites.specs.SiteSets.{has, Has, Adds, IsCommon}
 use Rattle.safl_sites.proofs.SetsByWords.{has_common, has_words, has_within}
 use Rattle.safl_sites.proofs.site_set.SiteSet.add_common.Goals as goal

@@ -1,5 +1,4 @@
-use Rattle.std.proofs.Common.{ℕ, ◌<◌, ◌≤◌, ◌≡◌, ◌/◌, get_or}
-use Rattle.safl_sites.specs.SiteSets.{Has, Adds, IsCommon}
+use Rattle.safl_sites.proofs.Common.{Adds, Has, IsCommon, get_or, ℕ, ◌/◌, ◌<◌, ◌≡◌, ◌≤◌}
 use Rattle.safl_sites.proofs.site_set.SiteSet.add_common.Given as goal
 
 abbrev pub invariant-loop-i : goal.invariant-loop-i

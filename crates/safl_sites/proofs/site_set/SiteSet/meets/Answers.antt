@@ -1,6 +1,5 @@
+use Rattle.safl_sites.proofs.Common.{Meets, cases_eq}
 use Rattle.std.proofs.Common.{◌/◌, ◌^◌, ◌<◌, length, get_or, arith, refl, sym, ◌∙◌, inl, inr}
-use Rattle.std.proofs.lemmas.Bool.{cases_eq}
-use Rattle.safl_sites.specs.SiteSets.{Meets}
 use Rattle.safl_sites.proofs.SetsByWords.{word_meets, word_meets_beside, word_misses, word_misses_beside, has_within}
 use Rattle.safl_sites.proofs.site_set.SiteSet.meets.Goals as goal
 use Rattle.safl_sites.proofs.site_set.SiteSet.meets.Goals.{then-i-except, else-i-except}

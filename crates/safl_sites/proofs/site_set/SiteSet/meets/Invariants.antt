@@ -1,5 +1,4 @@
-use Rattle.std.proofs.Common.{◌≡◌, ℕ, ◌<◌, ◌/◌}
-use Rattle.safl_sites.specs.SiteSets.{Has}
+use Rattle.safl_sites.proofs.Common.{Has, ℕ, ◌/◌, ◌<◌, ◌≡◌}
 use Rattle.safl_sites.proofs.site_set.SiteSet.meets.Given as goal
 
 abbrev pub invariant-loop-i : goal.invariant-loop-i

@@ -1,6 +1,5 @@
+use Rattle.safl_sites.proofs.Common.{cases_lt, get_or_past}
 use Rattle.std.proofs.Common.{◌/◌, ◌≤◌, length, get_or, bit_or, arith, sym, ◌∙◌, ap, inl, inr}
-use Rattle.std.proofs.lemmas.Bool.{cases_lt}
-use Rattle.std.proofs.lemmas.List.{get_or_past}
 use Rattle.std.specs.Int.Bits.{or_zero_r}
 use Rattle.safl_sites.proofs.SetsByWords.{has-union}
 use Rattle.safl_sites.proofs.site_set.SiteSet.union.Goals as goal

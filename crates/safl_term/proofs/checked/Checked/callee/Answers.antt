@@ -1,6 +1,5 @@
+use Rattle.safl_term.proofs.Common.{IsChecked, slice_get_read}
 use Rattle.std.proofs.Common.{◌≡◌, ℕ, ◌<◌, subst, sym, ap, ◌∙◌, arith}
-use Rattle.std.proofs.lemmas.Option.{slice_get_read}
-use Rattle.safl_term.specs.Checked.{IsChecked}
 use Rattle.safl_term.specs.Tables.{program_of}
 use Rattle.safl_term.proofs.HeldByChecked.{callee_in, main_is_called}
 use Rattle.safl_term.proofs.checked.Checked.callee.Goals as goal

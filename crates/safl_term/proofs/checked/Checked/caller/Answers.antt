@@ -1,6 +1,5 @@
+use Rattle.safl_term.proofs.Common.{IsChecked, slice_get_read}
 use Rattle.std.proofs.Common.{◌≡◌, ℕ, ◌<◌, subst, sym, arith}
-use Rattle.std.proofs.lemmas.Option.{slice_get_read}
-use Rattle.safl_term.specs.Checked.{IsChecked}
 use Rattle.safl_term.specs.Tables.{program_of}
 use Rattle.safl_term.proofs.HeldByChecked.{caller_in}
 use Rattle.safl_term.proofs.checked.Checked.caller.Goals as goal

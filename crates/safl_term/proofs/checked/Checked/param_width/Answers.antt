@@ -1,7 +1,6 @@
+use Rattle.safl_term.proofs.Common.{arity, width_max}
 use Rattle.std.proofs.Common.{◌≡◌, ◌<◌, ◌≤◌, Some, slice_get, subst, sym}
 use Rattle.safl_term.specs.Checked.{CheckedProgram}
-use Rattle.safl_term.specs.Program.{arity}
-use Rattle.safl_word.specs.Limits.{width_max}
 use Rattle.safl_term.proofs.HeldByChecked.{param_fits, param_read}
 use Rattle.safl_term.proofs.checked.Checked.param_width.Goals as goal
 

@@ -1,6 +1,5 @@
-use Rattle.std.proofs.Common.{ap, sym, ◌∙◌}
+use Rattle.safl_term.proofs.Common.{ap, code_weight, sym, ◌∙◌}
 use Rattle.safl_word.proofs.Naturals.{work_less_of}
-use Rattle.safl_term.specs.Weights.{code_weight}
 use Rattle.safl_term.proofs.Dismantling.{let_weight, op_weight, call_weight, loop_weight, less_in}
 use Rattle.safl_term.proofs.term.Term.enter.Goals as goal
 

@@ -1,5 +1,4 @@
-use Rattle.std.proofs.Common.{ap, sym, ◌∙◌, arith}
-use Rattle.safl_term.specs.Weights.{code_weight}
+use Rattle.safl_term.proofs.Common.{ap, arith, code_weight, sym, ◌∙◌}
 use Rattle.safl_term.proofs.Dismantling.{let_weight, op_weight, call_weight, loop_weight, at_most_of}
 use Rattle.safl_term.proofs.term.Term.leave.Goals as goal
 

@@ -1,7 +1,4 @@
-use Rattle.std.proofs.Common.{sym, ◌∙◌}
-use Rattle.std.proofs.lemmas.Result.{err_from_is_err_and}
-use Rattle.safl_grammar.proofs.Many.{goes_on, stops_here}
-use Rattle.safl_verilog.specs.Codes.{sort_codes}
+use Rattle.safl_vparse.proofs.Common.{err_from_is_err_and, goes_on, sort_codes, stops_here, sym, ◌∙◌}
 use Rattle.safl_verilog.specs.Reader.{comes, read_another_decl}
 use Rattle.safl_vparse.specs.Shown.{shown_all, shown_declarations}
 use Rattle.safl_vparse.proofs.Loops.{another_decl_eats, fails}

@@ -1,6 +1,4 @@
-use Rattle.std.proofs.Common.{◌≡◌, length}
-use Rattle.safl_grammar.specs.Reading.{read_many}
-use Rattle.safl_verilog.specs.Codes.{sort_codes}
+use Rattle.safl_vparse.proofs.Common.{length, read_many, sort_codes, ◌≡◌}
 use Rattle.safl_verilog.specs.Reader.{comes, read_another_decl, read_decls}
 use Rattle.safl_vparse.specs.Shown.{shown_all, shown_declarations}
 use Rattle.safl_vparse.proofs.parser.Parser.declarations.Given as goal

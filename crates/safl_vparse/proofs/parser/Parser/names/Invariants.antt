@@ -1,5 +1,4 @@
-use Rattle.std.proofs.Common.{◌≡◌, ◌∷◌, [], length}
-use Rattle.safl_grammar.specs.Reading.{read_many}
+use Rattle.safl_vparse.proofs.Common.{[], length, read_many, ◌∷◌, ◌≡◌}
 use Rattle.safl_verilog.specs.Reader.{comes, read_another_id, read_ids}
 use Rattle.safl_vparse.specs.Shown.{shown_all, shown_spots}
 use Rattle.safl_vparse.proofs.parser.Parser.names.Given as goal
